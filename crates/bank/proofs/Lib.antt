@@ -1,0 +1,4 @@
+pub mod Cleans
+pub mod Ones
+pub mod Words
+pub mod Lowest

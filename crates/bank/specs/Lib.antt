@@ -1,0 +1,5 @@
+pub mod Content
+pub mod Clean
+pub mod Registers
+pub mod Ranges
+pub mod Verdicts

@@ -1,0 +1,13 @@
+// Sixteen entries of physical memory protection: registers, locks, ranges and verdicts.
+mod bank;
+mod entries;
+mod entry;
+mod ranges;
+mod registers;
+mod verdict;
+mod verdicts;
+
+pub use bank::Bank;
+pub use ranges::range_word;
+pub use verdict::Kind;
+pub use verdict::Verdict;
