@@ -328,7 +328,7 @@ static uint64_t high_bit(struct generator *g)
     return UINT64_C(1) << (32 + below(g, 32));
 }
 
-/* An address that would be an edge if it were cut to 32 bits. */
+/* An edge with a high bit set as well, which a cut to 32 bits would lose. */
 static uint64_t raised_edge(struct generator *g)
 {
     uint64_t edge = any_edge(g);
@@ -411,6 +411,17 @@ static uint32_t chained_word(struct generator *g, unsigned entry)
     return chance(g, 85) ? before + step : before - step;
 }
 
+/* A word that gives one of the largest or the last ranges. */
+static uint32_t extreme_word(struct generator *g)
+{
+    static const uint32_t words[] = {
+        0xFFFFFFFF, 0xFFFFFFFF, 0xFFFFFFFF, 0xFFFFFFFE, 0xFFFFFFFD, 0xFFFFFFFC,
+        0xFFFFFFFB, 0xFFFFFFF7, 0xBFFFFFFF, 0x80000000, 0x7FFFFFFF, 0x7FFFFFFE
+    };
+
+    return ONE_OF(g, words);
+}
+
 static uint32_t address_word(struct generator *g, unsigned entry)
 {
     if (chance(g, 35))
@@ -419,9 +430,7 @@ static uint32_t address_word(struct generator *g, unsigned entry)
         return chained_word(g, entry);
     if (chance(g, 60))
         return small_word(g);
-    if (chance(g, 40))
-        return UINT32_MAX - (uint32_t)below(g, 9);
-    return (uint32_t)draw(g);
+    return chance(g, 50) ? extreme_word(g) : (uint32_t)draw(g);
 }
 
 /* Commands. */
@@ -517,14 +526,15 @@ static void make_near_word(struct generator *g)
     put_word(g, base, exponent);
 }
 
+/* Any base, with an exponent that is likely to be refused. */
 static void make_far_word(struct generator *g)
 {
     static const uint64_t odd_exponents[] = {
-        0x40, 0x43, 0x63, 0x80, 0x103, 0x100000003, 0x8000000000000022,
-        UINT64_MAX
+        0, 1, 2, 2, 2, 0x23, 0x23, 0x23, 0x24, 0x3F, 0x40, 0x43, 0x63, 0x80,
+        0x103, 0x100000003, 0x8000000000000022, UINT64_MAX
     };
     uint64_t base = chance(g, 50) ? limit_address(g) : draw(g);
-    uint64_t exponent = chance(g, 80) ? below(g, 41) : ONE_OF(g, odd_exponents);
+    uint64_t exponent = chance(g, 50) ? below(g, 41) : ONE_OF(g, odd_exponents);
 
     base <<= chance(g, 50) ? below(g, 64) : 0;
     put_word(g, base, exponent);
@@ -655,7 +665,7 @@ static void slip_extra_word(struct generator *g)
     put_number(g, below(g, 8));
 }
 
-/* Puts a spelling that is no number, or at times an unwonted one that is, in
+/* Puts a spelling that is no number, or at times an unusual one that is, in
    the place of an argument. */
 static void slip_number(struct generator *g)
 {

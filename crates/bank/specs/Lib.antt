@@ -3,3 +3,6 @@ pub mod Clean
 pub mod Registers
 pub mod Ranges
 pub mod Verdicts
+pub mod Runs
+pub mod Laws
+pub mod Examples

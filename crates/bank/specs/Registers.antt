@@ -31,12 +31,15 @@ is-bytes-register n = between 0x3A0 n 0x3A3
 abbrev pub is-word-register : ℕ → Bool
 is-word-register n = between 0x3B0 n 0x3BF
 
+abbrev pub is-register : ℕ → Bool
+is-register n = cond (is-bytes-register n) true (is-word-register n)
+
 -- a read or a write at privilege p of register n: first the privilege is asked about, then the number
 abbrev pub privilege-questions : ℕ → List (Bool × Refusal)
 privilege-questions p = (is-privilege p, Privilege) ∷ (eqb p 3, NotMachine) ∷ []
 
 abbrev pub number-questions : ℕ → List (Bool × Refusal)
-number-questions n = (cond (is-bytes-register n) true (is-word-register n), NoRegister) ∷ []
+number-questions n = (is-register n, NoRegister) ∷ []
 
 abbrev pub registers-asked : {X : Type 0} → ℕ → ℕ → X → (Refusal → X) → X
 registers-asked p n accepted refused =

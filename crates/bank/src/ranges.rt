@@ -1,5 +1,6 @@
 // Ranges: the first byte, and the byte after the last.
 ghost use Prim.Native.Nat.{_+_, _-_, _*_, _/_, _^_, _<_, _≤_};
+ghost use Rattle.bank.specs.Laws.{Ranges-come-back};
 ghost use Rattle.bank.specs.Ranges.{napot-range, range-at, range-of, range-word};
 ghost use Rattle.bank.specs.Registers.{content};
 ghost use Rattle.std.specs.Slices.{found};
@@ -7,6 +8,7 @@ ghost use mathlib.Core.Path.{_≡_};
 use crate::bank::Bank;
 use crate::bank::Entries;
 use crate::entry::COUNT;
+use crate::laws;
 use refusals::Refusal;
 
 // The byte after the last that can be named.
@@ -62,8 +64,10 @@ fn napot(word: u32) -> (u64, u64)
 
 // The word whose range in mode NAPOT is the 2^exponent bytes from base on.
 pub fn range_word(base: u64, exponent: u64) -> Result<u32, Refusal>
-    ensures { λ r. ⌜ r ≡ range-word base exponent ⌝ }
+    ensures answer { λ r. ⌜ r ≡ range-word base exponent ⌝ }
+    ensures back { λ _. ⌜ Ranges-come-back ⌝ }
 {
+    laws::ranges_come_back();
     if exponent < 3 || exponent > 34 {
         return Err(Refusal::Exponent);
     }

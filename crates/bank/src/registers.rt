@@ -1,16 +1,22 @@
 // The registers: 0x3A0 to 0x3A3 hold four configuration bytes each, 0x3B0 to 0x3BF the words.
 ghost use Rattle.bank.specs.Content.{blank};
+ghost use Rattle.bank.specs.Laws.{Always-clean, Locks-stand, Old-locks-decide, Only-resets-release, Words-last-written};
 ghost use Rattle.bank.specs.Registers.{content, privilege-questions, read-answer, write-answer, written};
 ghost use Rattle.refusals.specs.Questions.{ruling};
 ghost use mathlib.Core.Path.{_≡_};
 use crate::bank::Bank;
 use crate::bank::Entries;
+use crate::laws;
 use refusals::Refusal;
 
 impl Bank {
     pub fn new() -> Self
-        ensures { λ r. ⌜ content r ≡ blank ⌝ }
+        ensures made { λ r. ⌜ content r ≡ blank ⌝ }
+        ensures clean { λ _. ⌜ Always-clean ⌝ }
+        ensures words { λ _. ⌜ Words-last-written ⌝ }
     {
+        laws::always_clean();
+        laws::words_last_written();
         Bank {
             entries: Entries::new(),
         }
@@ -18,8 +24,10 @@ impl Bank {
 
     // All entries zero again, locked ones too.
     pub fn reset(&mut self)
-        ensures { λ _. ⌜ content (now (self .exit)) ≡ blank ⌝ }
+        ensures after { λ _. ⌜ content (now (self .exit)) ≡ blank ⌝ }
+        ensures releases { λ _. ⌜ Only-resets-release ⌝ }
     {
+        laws::only_resets_release();
         self.entries = Entries::new();
     }
 
@@ -39,7 +47,11 @@ impl Bank {
     pub fn write(&mut self, privilege: u64, number: u64, word: u32) -> Result<u32, Refusal>
         ensures answer { λ r. ⌜ r ≡ write-answer (content (now (self .entry))) privilege number word ⌝ }
         ensures after { λ _. ⌜ content (now (self .exit)) ≡ written (content (now (self .entry))) privilege number word ⌝ }
+        ensures locks { λ _. ⌜ Locks-stand ⌝ }
+        ensures four { λ _. ⌜ Old-locks-decide ⌝ }
     {
+        laws::locks_stand();
+        laws::old_locks_decide();
         asked(privilege)?;
         match number {
             0x3A0..=0x3A3 => {

@@ -1,5 +1,6 @@
 // Verdicts: the lowest entry whose range holds any byte of an access decides on it.
 ghost use Prim.Native.Nat.{_<_};
+ghost use Rattle.bank.specs.Laws.{Lowest-decides};
 ghost use Rattle.bank.specs.Registers.{content};
 ghost use Rattle.bank.specs.Verdicts.{covers as covered, deciding, judged, kind-asked, meets as met, privilege-asked, span-asked, verdict-of};
 ghost use Rattle.std.specs.Slices.{found};
@@ -8,6 +9,7 @@ use crate::bank::Bank;
 use crate::bank::Entries;
 use crate::entries::locked;
 use crate::entry::COUNT;
+use crate::laws;
 use crate::ranges::END;
 use crate::verdict::Kind;
 use crate::verdict::Verdict;
@@ -22,8 +24,10 @@ impl Bank {
         address: u64,
         size: u64,
     ) -> Result<Verdict, Refusal>
-        ensures { λ r. ⌜ r ≡ verdict-of (content (now (self .entry))) privilege kind address size ⌝ }
+        ensures answer { λ r. ⌜ r ≡ verdict-of (content (now (self .entry))) privilege kind address size ⌝ }
+        ensures lowest { λ _. ⌜ Lowest-decides ⌝ }
     {
+        laws::lowest_decides();
         asked(privilege)?;
         let kind = kind_of(kind)?;
         let span = span_of(address, size)?;
