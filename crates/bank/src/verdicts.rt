@@ -2,7 +2,7 @@
 ghost use Prim.Native.Nat.{_<_};
 ghost use Rattle.bank.specs.Laws.{Lowest-decides};
 ghost use Rattle.bank.specs.Registers.{content};
-ghost use Rattle.bank.specs.Verdicts.{covers as covered, deciding, judged, kind-asked, meets as met, privilege-asked, span-asked, verdict-of};
+ghost use Rattle.bank.specs.Verdicts.{covers as covered, deciding, judged, meets as met, privilege-asked, span-asked, verdict-of};
 ghost use Rattle.std.specs.Slices.{found};
 ghost use mathlib.Core.Path.{_≡_};
 use crate::bank::Bank;
@@ -29,7 +29,7 @@ impl Bank {
     {
         laws::lowest_decides();
         asked(privilege)?;
-        let kind = kind_of(kind)?;
+        let kind = Kind::of(kind)?;
         let span = span_of(address, size)?;
         Ok(self.entries.judge(privilege, kind, span))
     }
@@ -99,17 +99,6 @@ fn asked(privilege: u64) -> Result<(), Refusal>
     match privilege {
         0 | 1 | 3 => Ok(()),
         _ => Err(Refusal::Privilege),
-    }
-}
-
-fn kind_of(number: u64) -> Result<Kind, Refusal>
-    ensures { λ r. ⌜ r ≡ kind-asked number ⌝ }
-{
-    match number {
-        0 => Ok(Kind::Fetch),
-        1 => Ok(Kind::Load),
-        2 => Ok(Kind::Store),
-        _ => Err(Refusal::Kind),
     }
 }
 

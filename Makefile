@@ -1,0 +1,28 @@
+# make demo   one real task from beginning to end
+# make test   the gate: every proof, every edit that must fail, every program, and the C model
+
+.PHONY: demo test model clean
+
+CC ?= cc
+CFLAGS = -std=c11 -O2 -Wall -Wextra -Werror
+
+demo:
+	@mkdir -p target
+	@rt check monthend > target/demo.log 2>&1 || { cat target/demo.log; exit 1; }
+	@target/bin/monthend
+
+test:
+	@bash tools/test
+
+model: target/model/calculator target/model/generate
+
+target/model/calculator: model/calculator.c model/bank.c model/bank.h
+	@mkdir -p target/model
+	@$(CC) $(CFLAGS) -o $@ model/calculator.c model/bank.c
+
+target/model/generate: model/generate.c
+	@mkdir -p target/model
+	@$(CC) $(CFLAGS) -o $@ model/generate.c
+
+clean:
+	rm -rf target

@@ -1,0 +1,3 @@
+pub mod Privilege
+pub mod Turns
+pub mod State

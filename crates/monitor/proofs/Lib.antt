@@ -1,0 +1,16 @@
+pub mod Access
+pub mod Bridge
+pub mod Held
+pub mod Memory
+pub mod Plain
+pub mod Registers
+pub mod RollLaws
+pub mod Rolls
+pub mod Runs
+pub mod Sound
+pub mod Steps
+pub mod Transfer
+pub mod Verdicts
+pub mod Views
+pub mod Writes
+pub mod Worked
