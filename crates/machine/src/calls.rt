@@ -106,17 +106,17 @@ impl<M: Memory> Machine<M> {
         ensures after { λ _. ⌜ content-of (M·Memory .bytes) (now (self .exit)) ≡ halts event (content-of (M·Memory .bytes) (now (self .entry))) (now (self .entry) .turn .party) ⌝ }
         ensures beyond { λ _. ⌜ beyond-of (M·Memory .beyond) (now (self .exit)) ≡ beyond-of (M·Memory .beyond) (now (self .entry)) ⌝ }
     {
-        let Party::Enclave(slot) = self.turn.party() else {
+        let Party::Enclave(running) = self.turn.party() else {
             return;
         };
         {
             let mut guard = Raised::new(&mut self.hart);
             let privilege = guard.hart.privilege.number();
-            set_byte(&mut self.bank, privilege, slot, SHUT);
+            set_byte(&mut self.bank, privilege, running, SHUT);
             set_byte(&mut self.bank, privilege, SYSTEM, OPEN);
             guard.back = Privilege::Supervisor;
         }
-        self.slots.step(slot, event);
+        self.slots.step(running, event);
         self.turn = Turn::system();
     }
 

@@ -71,24 +71,11 @@ impl<M: Memory> Machine<M> {
         ensures bytes { λ r. ⌜ M·Memory .bytes r ≡ content-of (M·Memory .bytes) self .bytes ⌝ }
         ensures beyond { λ r. ⌜ M·Memory .beyond r ≡ beyond-of (M·Memory .beyond) self ⌝ }
     {
-        let Machine {
-            hart: _,
-            bank: _,
-            slots: _,
-            turn: _,
-            memory,
-        } = self;
-        memory
-    }
-
-    pub(crate) fn started(&self) -> bool
-        ensures { λ r. ⌜ r ≡ starts (length (M·Memory .bytes (now (self .entry) .memory))) ⌝ }
-    {
-        starting(self.memory.len())
+        self.memory
     }
 }
 
-fn starting(length: u64) -> bool
+pub(crate) fn starting(length: u64) -> bool
     ensures { λ r. ⌜ r ≡ starts length ⌝ }
 {
     length >= 16_384 && length <= 1 << 34 && length % 4_096 == 0

@@ -13,12 +13,19 @@ ghost use lib.ListN.{length};
 ghost use mathlib.Core.List.{[], _∷_};
 ghost use mathlib.Core.Path.{_≡_};
 use crate::machine::Machine;
+use crate::machine::starting;
 use memory::Memory;
 use monitor::Party;
 use monitor::Slot;
 use refusals::Refusal;
 
 impl<M: Memory> Machine<M> {
+    pub(crate) fn started(&self) -> bool
+        ensures { λ r. ⌜ r ≡ starts (length (M·Memory .bytes (now (self .entry) .memory))) ⌝ }
+    {
+        starting(self.memory.len())
+    }
+
     // The machine is started, the slot is one, and the operating system runs.
     fn ask_system(&self, slot: u64) -> Result<(), Refusal>
         ensures answer { λ r. ⌜ r ≡ ruling ((starts (length (M·Memory .bytes (now (self .entry) .memory))), NotStarted) ∷ (is-slot slot, NoSlot) ∷ (os-runs (now (self .entry) .turn .party), OsNotRunning) ∷ []) ⌝ }

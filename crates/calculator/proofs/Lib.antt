@@ -1,0 +1,10 @@
+pub mod Answered
+pub mod Back
+pub mod Cuts
+pub mod Digits
+pub mod Parsing
+pub mod Reading
+pub mod Scripts
+pub mod Spelling
+pub mod Standing
+pub mod Written
