@@ -656,38 +656,53 @@ static void damage_shorter(struct generator *g)
     g->length -= (size_t)count;
 }
 
+/* One bit of a field: its first, its last or any. */
+static uint64_t any_bit(struct generator *g, unsigned first, unsigned last)
+{
+    if (chance(g, 25))
+        return UINT64_C(1) << first;
+    if (chance(g, 30))
+        return UINT64_C(1) << last;
+    return UINT64_C(1) << (first + below(g, last - first + 1));
+}
+
+static void set_spare(struct generator *g, struct record *record)
+{
+    record->spare |= any_bit(g, 0, SPARE_BITS - 1);
+}
+
+static void set_slot(struct generator *g, struct record *record)
+{
+    record->slot |= (unsigned)any_bit(g, 0, 3);
+}
+
+static void set_width(struct generator *g, struct record *record)
+{
+    record->width |= (unsigned)any_bit(g, 0, 1);
+}
+
+static void set_address(struct generator *g, struct record *record)
+{
+    record->address |= any_bit(g, 0, 33);
+}
+
+static void set_value(struct generator *g, struct record *record)
+{
+    record->value |= any_bit(g, 0, 63);
+}
+
+static void set_high_value(struct generator *g, struct record *record)
+{
+    record->value |= any_bit(g, 32, 63);
+}
+
 static void damage_spare(struct generator *g)
 {
     unsigned char *bytes = any_record(g);
     struct record record = read_record(bytes);
 
-    record.spare |= UINT64_C(1) << below(g, SPARE_BITS);
+    set_spare(g, &record);
     write_record(bytes, &record);
-}
-
-static void set_slot(struct generator *g, struct record *record)
-{
-    record->slot |= 1U << below(g, 4);
-}
-
-static void set_width(struct generator *g, struct record *record)
-{
-    record->width |= 1U << below(g, 2);
-}
-
-static void set_address(struct generator *g, struct record *record)
-{
-    record->address |= UINT64_C(1) << below(g, 34);
-}
-
-static void set_value(struct generator *g, struct record *record)
-{
-    record->value |= UINT64_C(1) << below(g, 64);
-}
-
-static void set_high_value(struct generator *g, struct record *record)
-{
-    record->value |= UINT64_C(1) << (32 + below(g, 32));
 }
 
 typedef void setter(struct generator *g, struct record *record);
@@ -732,14 +747,22 @@ static void damage_rare_field(struct generator *g)
     write_record(bytes, &record);
 }
 
-static void damage_operation(struct generator *g)
+/* Gives a record an operation that there is none of, at times with more
+   that is wrong. */
+static void spoil(struct generator *g, unsigned char *bytes)
 {
-    static const unsigned operations[] = {0, 0, 10, 11, 12, 13, 14, 15};
-    unsigned char *bytes = any_record(g);
+    static const unsigned operations[] = {0, 0, 10, 10, 11, 12, 13, 14, 15};
     struct record record = read_record(bytes);
 
     record.operation = ONE_OF(g, operations);
+    if (chance(g, 40))
+        set_spare(g, &record);
     write_record(bytes, &record);
+}
+
+static void damage_operation(struct generator *g)
+{
+    spoil(g, any_record(g));
 }
 
 static void damage_register(struct generator *g)
@@ -752,28 +775,41 @@ static void damage_register(struct generator *g)
     write_record(bytes, &record);
 }
 
+static void make_full(struct generator *g)
+{
+    while (g->length + RECORD_BYTES <= TAPE_ROOM)
+        make_call(g);
+}
+
 /* Lengthens the tape to about as long as a tape may be or too long. */
 static void damage_length(struct generator *g)
 {
     static const size_t lengths[] = {
         TAPE_MAX - 1, TAPE_MAX + 1, TAPE_MAX + 1, TAPE_ROOM, TAPE_ROOM
     };
-    size_t length = ONE_OF(g, lengths);
 
-    while (g->length + RECORD_BYTES <= TAPE_ROOM)
-        make_call(g);
-    g->length = length;
+    make_full(g);
+    g->length = ONE_OF(g, lengths);
+}
+
+/* Lengthens the tape to the longest and spoils its last record. */
+static void damage_last(struct generator *g)
+{
+    make_full(g);
+    g->length = TAPE_MAX;
+    spoil(g, g->tape + TAPE_MAX - RECORD_BYTES);
 }
 
 static const struct choice damages[] = {
-    {4, damage_longer},
-    {4, damage_shorter},
-    {4, damage_spare},
-    {3, damage_field},
-    {4, damage_rare_field},
-    {4, damage_operation},
-    {2, damage_register},
-    {2, damage_length},
+    {5, damage_longer},
+    {5, damage_shorter},
+    {6, damage_spare},
+    {4, damage_field},
+    {14, damage_rare_field},
+    {7, damage_operation},
+    {3, damage_register},
+    {3, damage_length},
+    {1, damage_last},
 };
 
 static void damage(struct generator *g)

@@ -11,6 +11,7 @@ use crate::machine::Machine;
 use crate::questions::power;
 use crate::registers::set_byte;
 use crate::registers::set_word;
+use crate::slots::SYSTEM;
 use crate::turn::Turn;
 use bank::range_word;
 use memory::Memory;
@@ -18,8 +19,7 @@ use monitor::Answer;
 use monitor::Event;
 use monitor::Party;
 
-// The operating system's entry, and the bytes of a range that is shut and of one that is open.
-const SYSTEM: u64 = 15;
+// The bytes of a range that is shut, and of one that is open.
 
 const SHUT: u8 = 0x18;
 

@@ -12,7 +12,7 @@ use monitor::Slot;
 // How many entries there are, and the operating system's, which no slot has.
 const COUNT: usize = 16;
 
-const SYSTEM: usize = 15;
+pub(crate) const SYSTEM: u64 = 15;
 
 #[derive(Drop)]
 pub struct Slots {
@@ -56,7 +56,7 @@ impl Slots {
         ensures { λ r. ⌜ r ≡ apart-below (slot-of (now (self .entry) .list)) (range .0) (range .1) 15 ⌝ }
     {
         let mut all = true;
-        for i in 0..SYSTEM {
+        for i in 0..SYSTEM as usize {
             let one = apart(self.list[i].range(), range);
             all = one && all;
         }

@@ -11,7 +11,7 @@ use Rattle.bank.specs.declared.entry.Entry.{Entry}
 use Rattle.bank.specs.declared.verdict.Verdict.{Verdict}
 use Rattle.bank.specs.declared.verdict.Verdict.the-variants.{Allowed, Fault as VerdictFault}
 use Rattle.monitor.specs.Bytes.{accessed, low-bytes, stored}
-use Rattle.monitor.specs.Layout.{machine, opened, os-entry, shut, starts, supervisor, user}
+use Rattle.monitor.specs.Layout.{common-word, machine, monitor-word, opened, os-entry, shared, shut, starts, supervisor, system-word, user}
 use Rattle.monitor.specs.Roll.{Roll, judges}
 use Rattle.monitor.specs.Slots.{moved, ranged}
 use Rattle.monitor.specs.Theorem.{System}
@@ -70,8 +70,9 @@ address l s w = written l machine (0x3B0 + s) w
 -- the monitor page, the common page and the operating system, written into a new bank
 unfoldable pub new-bank : List Entry
 new-bank =
-    written (written (written (written (written blank machine 0x3B0 0x1FF) machine 0x3B1 0x5FF) machine 0x3BF 0xFFFFFFFF) machine 0x3A0 0x9D18)
-    machine 0x3A3 0x1F000000
+    written (written (written (written (written blank machine 0x3B0 monitor-word) machine 0x3B1 common-word) machine 0x3BF system-word)
+    machine 0x3A0 (shut + shared * 256))
+    machine 0x3A3 (opened * 16777216)
 
 -- over a memory that starts no machine the bank is new
 abbrev pub new-content : List ℕ → Content

@@ -1,4 +1,4 @@
--- where everything lies: pages, slots, privileges and the bytes of the entries, each number once
+-- where everything lies: pages, slots, privileges, and the bytes and words of the entries
 use Prim.Native.Nat.{ℕ, _%_}
 use mathlib.Core.Bool.{Bool, cond, false}
 use lib.Dec.{eqb, leb}
@@ -41,3 +41,17 @@ shut = 0x18
 
 abbrev pub opened : ℕ
 opened = 0x1F
+
+-- the byte of the common page, which all may fetch and load from and which is locked
+abbrev pub shared : ℕ
+shared = 0x9D
+
+-- the words of the monitor page, of the common page and of the operating system
+abbrev pub monitor-word : ℕ
+monitor-word = 0x1FF
+
+abbrev pub common-word : ℕ
+common-word = 0x5FF
+
+abbrev pub system-word : ℕ
+system-word = 0xFFFFFFFF

@@ -84,7 +84,7 @@ abbrev pub In-range : Option (ℕ × ℕ) → ℕ → Type 0
 In-range None p = ⊥
 In-range (Some r) p = (r .0 ≤ p) × (p < r .1)
 
--- the enclave of slot e is the one that runs
+-- the operating system is the one that runs
 abbrev pub os-runs : Party → Bool
 os-runs Os = true
 os-runs (Enclave _) = false
