@@ -705,46 +705,61 @@ static void damage_spare(struct generator *g)
     write_record(bytes, &record);
 }
 
-typedef void setter(struct generator *g, struct record *record);
+/* The fields that operations do not use, or not whole. */
+static const struct flaw {
+    unsigned operation;
+    void (*set)(struct generator *g, struct record *record);
+} flaws[] = {
+    {CREATE, set_width},
+    {ENTER, set_width},
+    {ENTER, set_address},
+    {ENTER, set_value},
+    {PAUSE, set_slot},
+    {PAUSE, set_width},
+    {PAUSE, set_address},
+    {PAUSE, set_value},
+    {FINISH, set_slot},
+    {FINISH, set_width},
+    {FINISH, set_address},
+    {DESTROY, set_width},
+    {DESTROY, set_address},
+    {DESTROY, set_value},
+    {LOAD, set_slot},
+    {LOAD, set_value},
+    {STORE, set_slot},
+    {FETCH, set_slot},
+    {FETCH, set_value},
+    {REGISTER, set_slot},
+    {REGISTER, set_width},
+    {REGISTER, set_high_value},
+};
 
-/* Sets a bit of a field that the record's operation does not use. */
-static void set_unused(struct generator *g, struct record *record)
+/* A record of the operation; without one, a bare one is put in the place of
+   another. */
+static unsigned char *record_of(struct generator *g, unsigned operation)
 {
-    static setter *const setters[][4] = {
-        [0] = {set_slot, set_width, set_address, set_value},
-        [CREATE] = {set_width, set_width, set_width, set_width},
-        [ENTER] = {set_width, set_width, set_address, set_value},
-        [PAUSE] = {set_slot, set_width, set_address, set_value},
-        [FINISH] = {set_slot, set_width, set_address, set_address},
-        [DESTROY] = {set_width, set_width, set_address, set_value},
-        [LOAD] = {set_slot, set_slot, set_value, set_value},
-        [STORE] = {set_slot, set_slot, set_slot, set_slot},
-        [FETCH] = {set_slot, set_slot, set_value, set_value},
-        [REGISTER] = {set_slot, set_width, set_high_value, set_high_value}
-    };
+    unsigned char *place = any_record(g);
+    struct record bare = {.operation = operation};
 
-    if (record->operation < COUNT(setters))
-        ONE_OF(g, setters[record->operation])(g, record);
+    for (size_t i = 0; i + RECORD_BYTES <= g->length; i += RECORD_BYTES)
+        if (g->tape[i] >> 4 == operation)
+            return g->tape + i;
+    write_record(place, &bare);
+    return place;
 }
 
-static void damage_field(struct generator *g)
+static void damage_field(struct generator *g, const struct flaw *flaw)
 {
-    unsigned char *bytes = any_record(g);
+    unsigned char *bytes = record_of(g, flaw->operation);
     struct record record = read_record(bytes);
 
-    set_unused(g, &record);
+    flaw->set(g, &record);
     write_record(bytes, &record);
 }
 
-/* Puts a record of any operation, sound but for a field, in the place of
-   another, so that the rare operations get their share. */
-static void damage_rare_field(struct generator *g)
+static void damage_any_field(struct generator *g)
 {
-    unsigned char *bytes = any_record(g);
-    struct record record = {.operation = 1 + (unsigned)below(g, 9)};
-
-    set_unused(g, &record);
-    write_record(bytes, &record);
+    damage_field(g, &ONE_OF(g, flaws));
 }
 
 /* Gives a record an operation that there is none of, at times with more
@@ -763,16 +778,6 @@ static void spoil(struct generator *g, unsigned char *bytes)
 static void damage_operation(struct generator *g)
 {
     spoil(g, any_record(g));
-}
-
-static void damage_register(struct generator *g)
-{
-    unsigned char *bytes = any_record(g);
-    struct record record = {.operation = REGISTER, .address = 0x3A0};
-
-    record.value = any_value(g) & UINT32_MAX;
-    set_high_value(g, &record);
-    write_record(bytes, &record);
 }
 
 static void make_full(struct generator *g)
@@ -801,31 +806,33 @@ static void damage_last(struct generator *g)
 }
 
 static const struct choice damages[] = {
-    {5, damage_longer},
-    {5, damage_shorter},
-    {6, damage_spare},
-    {4, damage_field},
-    {14, damage_rare_field},
-    {7, damage_operation},
-    {3, damage_register},
+    {4, damage_longer},
+    {4, damage_shorter},
+    {5, damage_spare},
+    {3, damage_any_field},
+    {6, damage_operation},
     {3, damage_length},
     {1, damage_last},
 };
 
-static void damage(struct generator *g)
+/* Every other lot takes the next flaw, so that each comes up often. */
+static void damage(struct generator *g, uint64_t lot)
 {
-    MAKE_ONE(g, damages);
-    while (chance(g, 25) && g->length >= RECORD_BYTES)
+    if (lot % 2 == 0)
+        damage_field(g, &flaws[lot / 2 % COUNT(flaws)]);
+    else
+        MAKE_ONE(g, damages);
+    while (chance(g, 20) && g->length >= RECORD_BYTES)
         MAKE_ONE(g, damages);
 }
 
-static void make_tape(struct generator *g)
+/* One seed in eight gives a damaged tape. */
+static void make_tape(struct generator *g, uint64_t seed)
 {
-    bool damaged = below(g, 8) == 0;
-
+    g->state = seed;
     make_calls(g, any_length(g));
-    if (damaged)
-        damage(g);
+    if (seed % 8 == 7)
+        damage(g, seed / 8);
 }
 
 static bool parse_decimal(const char *text, uint64_t *number)
@@ -842,12 +849,13 @@ static bool parse_decimal(const char *text, uint64_t *number)
 int main(int argc, char **argv)
 {
     static struct generator g;
+    uint64_t seed;
 
-    if (argc != 2 || !parse_decimal(argv[1], &g.state)) {
+    if (argc != 2 || !parse_decimal(argv[1], &seed)) {
         fputs("usage: tapegen SEED\n", stderr);
         return 2;
     }
-    make_tape(&g);
+    make_tape(&g, seed);
     fwrite(g.tape, 1, g.length, stdout);
     if (fflush(stdout) != 0 || ferror(stdout)) {
         fputs("tapegen: cannot print the tape\n", stderr);

@@ -20,7 +20,7 @@ const LOAD: u64 = 1;
 const STORE: u64 = 2;
 
 #[derive(Clone, Copy)]
-pub struct Job {
+pub(crate) struct Job {
     pub name: &'static str,
     pub slot: u32,
     pub base: u32,
@@ -36,7 +36,7 @@ impl Job {
 }
 
 // The operating system puts drafts and ledger into the range, and creates the slot over it.
-pub fn prepare<M: Memory>(
+pub(crate) fn prepare<M: Memory>(
     rt: &LibcRuntime,
     machine: &mut Machine<M>,
     job: Job,
@@ -66,7 +66,7 @@ pub fn prepare<M: Memory>(
 }
 
 // The operating system cannot reach into a job's range.
-pub fn try_from_outside<M: Memory>(
+pub(crate) fn try_from_outside<M: Memory>(
     rt: &LibcRuntime,
     machine: &mut Machine<M>,
     job: Job,
@@ -83,7 +83,7 @@ pub fn try_from_outside<M: Memory>(
 }
 
 // The job runs, matches its lines, tries what it may not reach, and hands over its count.
-pub fn work<M: Memory>(
+pub(crate) fn work<M: Memory>(
     rt: &LibcRuntime,
     machine: &mut Machine<M>,
     job: Job,
@@ -141,7 +141,7 @@ fn reconcile<M: Memory>(
 }
 
 // The slot is destroyed, and the operating system finds zeros where it was.
-pub fn clear_away<M: Memory>(
+pub(crate) fn clear_away<M: Memory>(
     rt: &LibcRuntime,
     machine: &mut Machine<M>,
     job: Job,

@@ -11,7 +11,7 @@ use std::error::AnyError;
 // Bytes that are kept, from place 0 on.
 const KEPT: [u8; 6] = [0x11, 0x22, 0x33, 0x44, 0x55, 0x66];
 
-pub fn show(rt: &LibcRuntime) -> Result<(), AnyError> {
+pub(crate) fn show(rt: &LibcRuntime) -> Result<(), AnyError> {
     let heap = rt.alloc();
     let mut bytes = ByteMemory::new(vec![in heap; 0; 8]?);
     let mut words = WordMemory::new(vec![in heap; 0; 2]?);

@@ -4,7 +4,7 @@ use monitor::Layer;
 use std::alloc::AllocError;
 use std::alloc::Global;
 
-pub fn outcome(heap: Global, answer: Answer) -> Result<String, AllocError> {
+pub(crate) fn outcome(heap: Global, answer: Answer) -> Result<String, AllocError> {
     match answer {
         Answer::Done(value) => format!(heap, "is carried out and answers {value}"),
         Answer::Fault(Layer::Protection, cause) => {
@@ -21,7 +21,7 @@ pub fn outcome(heap: Global, answer: Answer) -> Result<String, AllocError> {
 }
 
 // The value of a call that was carried out.
-pub fn value(answer: Answer) -> Option<u64> {
+pub(crate) fn value(answer: Answer) -> Option<u64> {
     match answer {
         Answer::Done(value) => Some(value),
         Answer::Fault(_, _) | Answer::Refused(_) => None,
