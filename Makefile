@@ -14,7 +14,7 @@ demo:
 test:
 	@bash tools/test
 
-model: target/model/calculator target/model/generate
+model: target/model/calculator target/model/generate target/model/tape target/model/tapegen
 
 target/model/calculator: model/calculator.c model/bank.c model/bank.h
 	@mkdir -p target/model
@@ -23,6 +23,14 @@ target/model/calculator: model/calculator.c model/bank.c model/bank.h
 target/model/generate: model/generate.c
 	@mkdir -p target/model
 	@$(CC) $(CFLAGS) -o $@ model/generate.c
+
+target/model/tape: model/tape.c model/machine.c model/bank.c model/machine.h model/bank.h
+	@mkdir -p target/model
+	@$(CC) $(CFLAGS) -o $@ model/tape.c model/machine.c model/bank.c
+
+target/model/tapegen: model/tapegen.c
+	@mkdir -p target/model
+	@$(CC) $(CFLAGS) -o $@ model/tapegen.c
 
 clean:
 	rm -rf target

@@ -1,0 +1,9 @@
+pub mod Packing
+pub mod Records
+pub mod Parts
+pub mod Reading
+pub mod Writing
+pub mod Lines
+pub mod CallLaws
+pub mod Trips
+pub mod Reporting

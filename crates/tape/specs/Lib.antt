@@ -1,0 +1,9 @@
+pub mod Item
+pub mod Record
+pub mod Refusal
+pub mod Reader
+pub mod Writer
+pub mod Calls
+pub mod Line
+pub mod Reports
+pub mod Laws
