@@ -8,8 +8,13 @@ CFLAGS = -std=c11 -O2 -Wall -Wextra -Werror
 
 demo:
 	@mkdir -p target
-	@rt check monthend > target/demo.log 2>&1 || { cat target/demo.log; exit 1; }
+	@rt check monthend pmprun tapetext > target/demo.log 2>&1 || { cat target/demo.log; exit 1; }
 	@target/bin/monthend
+	@echo
+	@echo "The tape examples/monthend.tape, as text and as pmprun answers it:"
+	@target/bin/tapetext text < examples/monthend.tape > target/demo.text
+	@target/bin/pmprun < examples/monthend.tape > target/demo.run
+	@paste -d '\n' target/demo.text target/demo.run
 
 test:
 	@bash tools/test

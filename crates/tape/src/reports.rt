@@ -1,4 +1,5 @@
 // A report: the whole text that is printed of a tape's run.
+ghost use Prim.Native.Nat.{_≤_};
 ghost use Rattle.machine.specs.State.{beyond-of, content-of};
 ghost use Rattle.monitor.specs.Content.{banked};
 ghost use Rattle.monitor.specs.Theorem.{calls, log as logged, ran};
@@ -10,7 +11,6 @@ ghost use Rattle.std.specs.declared.result.Result.the-variants.{Ok, Err};
 ghost use Rattle.tape.specs.Calls.{calls-of};
 ghost use Rattle.tape.specs.Laws.{Report-laws, Same-text};
 ghost use Rattle.tape.specs.Reports.{Left, lines-from, most, refusal-text, report-after, report-text, run-after, run-text, short-tape};
-ghost use Prim.Native.Nat.{_≤_};
 ghost use lib.ListN.{length, take};
 ghost use mathlib.Core.Path.{_≡_};
 use crate::item::Item;

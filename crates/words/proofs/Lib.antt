@@ -1,0 +1,6 @@
+pub mod Back
+pub mod Following
+pub mod Leaving
+pub mod Numerals
+pub mod Reading
+pub mod Spelling

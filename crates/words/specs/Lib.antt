@@ -1,0 +1,10 @@
+pub mod Fault
+pub mod Fields
+pub mod Hex
+pub mod Laws
+pub mod Line
+pub mod Numbers
+pub mod Operation
+pub mod Parse
+pub mod Sizes
+pub mod Tapes
