@@ -98,7 +98,7 @@ size-back w h =
       ]
     ]
 
-size-fits : (w : ℕ) → size-of w < 2 ^ 64
+pub size-fits : (w : ℕ) → size-of w < 2 ^ 64
 size-fits w = search needs
 
 sized-back : (n w a v : ℕ) → w ≤ 3 → sized n (size-of w) a v ≡ Some (item n 0 w a v)
@@ -117,10 +117,10 @@ create-back : Reads 1
 unfolding largest-of
 create-back s w a v u =
     ap parse-words (words-line (codes "create") (codes "slot" ∷ decimal s ∷ codes "base" ∷ hex-text a ∷ codes "exponent" ∷ []) (decimal v)
-        refl (refl, (dark-decimal s, (refl, (dark-hex a, (refl, tt))))) (dark-decimal v))
+    refl (refl, (dark-decimal s, (refl, (dark-hex a, (refl, tt))))) (dark-decimal v))
     ∙ ap (mapped (λ (p : ℕ × ℕ × ℕ). item 1 (p .0) 0 (p .1) (p .2)))
-        (three-is (codes "slot") (decimal s) (codes "base") (hex-text a) (codes "exponent") (decimal v) s a v refl refl refl
-            (number-decimal s (omega arith)) (number-hex a (omega arith)) (number-decimal v (omega arith)))
+    (three-is (codes "slot") (decimal s) (codes "base") (hex-text a) (codes "exponent") (decimal v) s a v refl refl refl
+    (number-decimal s (omega arith)) (number-hex a (omega arith)) (number-decimal v (omega arith)))
     ∙ ap (λ (k : ℕ). Some (item 1 s k a v)) (sym (none w (u .width)))
 
 enter-back : Reads 2
@@ -162,9 +162,9 @@ load-back : Reads 6
 unfolding largest-of
 load-back s w a v u =
     ap parse-words (words-line (codes "load") (codes "size" ∷ decimal (size-of w) ∷ codes "at" ∷ []) (hex-text a)
-        refl (refl, (dark-decimal (size-of w), (refl, tt))) (dark-hex a))
+    refl (refl, (dark-decimal (size-of w), (refl, tt))) (dark-hex a))
     ∙ ap (λ (o : Option (ℕ × ℕ)). and-then o (λ p. sized 6 (p .0) (p .1) 0))
-        (two-is (codes "size") (decimal (size-of w)) (codes "at") (hex-text a) (size-of w) a refl refl (number-decimal (size-of w) (size-fits w)) (number-hex a (omega arith)))
+    (two-is (codes "size") (decimal (size-of w)) (codes "at") (hex-text a) (size-of w) a refl refl (number-decimal (size-of w) (size-fits w)) (number-hex a (omega arith)))
     ∙ sized-back 6 w a 0 (u .width)
     ∙ ap (λ (k : ℕ). Some (item 6 k w a 0)) (sym (none s (u .slot)))
     ∙ ap (λ (k : ℕ). Some (item 6 s w a k)) (sym (none v (u .value)))
@@ -173,10 +173,10 @@ store-back : Reads 7
 unfolding largest-of
 store-back s w a v u =
     ap parse-words (words-line (codes "store") (codes "size" ∷ decimal (size-of w) ∷ codes "at" ∷ hex-text a ∷ codes "value" ∷ []) (hex-text v)
-        refl (refl, (dark-decimal (size-of w), (refl, (dark-hex a, (refl, tt))))) (dark-hex v))
+    refl (refl, (dark-decimal (size-of w), (refl, (dark-hex a, (refl, tt))))) (dark-hex v))
     ∙ ap (λ (o : Option (ℕ × ℕ × ℕ)). and-then o (λ p. sized 7 (p .0) (p .1) (p .2)))
-        (three-is (codes "size") (decimal (size-of w)) (codes "at") (hex-text a) (codes "value") (hex-text v) (size-of w) a v refl refl refl
-            (number-decimal (size-of w) (size-fits w)) (number-hex a (omega arith)) (number-hex v (omega arith)))
+    (three-is (codes "size") (decimal (size-of w)) (codes "at") (hex-text a) (codes "value") (hex-text v) (size-of w) a v refl refl refl
+    (number-decimal (size-of w) (size-fits w)) (number-hex a (omega arith)) (number-hex v (omega arith)))
     ∙ sized-back 7 w a v (u .width)
     ∙ ap (λ (k : ℕ). Some (item 7 k w a v)) (sym (none s (u .slot)))
 
@@ -184,9 +184,9 @@ fetch-back : Reads 8
 unfolding largest-of
 fetch-back s w a v u =
     ap parse-words (words-line (codes "fetch") (codes "size" ∷ decimal (size-of w) ∷ codes "at" ∷ []) (hex-text a)
-        refl (refl, (dark-decimal (size-of w), (refl, tt))) (dark-hex a))
+    refl (refl, (dark-decimal (size-of w), (refl, tt))) (dark-hex a))
     ∙ ap (λ (o : Option (ℕ × ℕ)). and-then o (λ p. sized 8 (p .0) (p .1) 0))
-        (two-is (codes "size") (decimal (size-of w)) (codes "at") (hex-text a) (size-of w) a refl refl (number-decimal (size-of w) (size-fits w)) (number-hex a (omega arith)))
+    (two-is (codes "size") (decimal (size-of w)) (codes "at") (hex-text a) (size-of w) a refl refl (number-decimal (size-of w) (size-fits w)) (number-hex a (omega arith)))
     ∙ sized-back 8 w a 0 (u .width)
     ∙ ap (λ (k : ℕ). Some (item 8 k w a 0)) (sym (none s (u .slot)))
     ∙ ap (λ (k : ℕ). Some (item 8 s w a k)) (sym (none v (u .value)))
@@ -195,9 +195,9 @@ register-back : Reads 9
 unfolding largest-of
 register-back s w a v u =
     ap parse-words (words-line (codes "register") (codes "number" ∷ hex-text a ∷ codes "value" ∷ []) (hex-text v)
-        refl (refl, (dark-hex a, (refl, tt))) (dark-hex v))
+    refl (refl, (dark-hex a, (refl, tt))) (dark-hex v))
     ∙ ap (mapped (λ (p : ℕ × ℕ). item 9 0 0 (p .0) (p .1)))
-        (two-is (codes "number") (hex-text a) (codes "value") (hex-text v) a v refl refl (number-hex a (omega arith)) (number-hex v (omega arith)))
+    (two-is (codes "number") (hex-text a) (codes "value") (hex-text v) a v refl refl (number-hex a (omega arith)) (number-hex v (omega arith)))
     ∙ ap (λ (k : ℕ). Some (item 9 k 0 a v)) (sym (none s (u .slot)))
     ∙ ap (λ (k : ℕ). Some (item 9 s k a v)) (sym (none w (u .width)))
 

@@ -4,3 +4,4 @@ pub mod Leaving
 pub mod Numerals
 pub mod Reading
 pub mod Spelling
+pub mod Whole

@@ -122,6 +122,7 @@ number-decimal n fits =
     grown (suc k) n x acc =
         cond-both (eqb (n / 10) 0) (glyph false (n % 10) ∷ x ∷ acc) (spelled k 10 false (n / 10) (glyph false (n % 10) ∷ x ∷ acc)) (λ xs. eqb (length xs) 0 ≡ false)
         (λ _. filled (glyph false (n % 10)) (x ∷ acc)) (λ _. grown k (n / 10) (glyph false (n % 10)) (x ∷ acc))
+
     long : (k n : ℕ) (acc : List ℕ) → eqb (length (spelled (suc k) 10 false n acc)) 0 ≡ false
     long k n acc =
         cond-both (eqb (n / 10) 0) (glyph false (n % 10) ∷ acc) (spelled k 10 false (n / 10) (glyph false (n % 10) ∷ acc)) (λ xs. eqb (length xs) 0 ≡ false)
@@ -140,8 +141,8 @@ read-from (suc k) n fits =
     let low : m ≤ n = div-le-self n (16 ^ suc k) in
     ap (λ (x : ℕ). digits-value 16 x (front-digit m ++ digits-from k n)) (sym cut)
     ∙ cond-both (eqb m 0) [] (digitChar (m % 16) ∷ []) (λ xs. digits-value 16 (m / 16) (xs ++ digits-from k n) ≡ digits-value 16 m (digits-from k n))
-        (λ e. ap (λ (x : ℕ). digits-value 16 x (digits-from k n)) {x = m / 16} {y = m} (omega (arith, eqb-true m 0 e)))
-        (λ _. read-on 16 (m / 16) (m % 16) m (digits-from k n) (mod-lt m (omega arith)) (omega arith) (omega arith) (omega arith))
+    (λ e. ap (λ (x : ℕ). digits-value 16 x (digits-from k n)) {x = m / 16} {y = m} (omega (arith, eqb-true m 0 e)))
+    (λ _. read-on 16 (m / 16) (m % 16) m (digits-from k n) (mod-lt m (omega arith)) (omega arith) (omega arith) (omega arith))
     ∙ read-from k n fits
 
 hex-is : (n : ℕ) → high-text n ++ low-text n ≡ digits-from 15 n
@@ -171,3 +172,13 @@ dark-from (suc k) n =
 pub dark-hex : (n : ℕ) → dark (hex-text n) ≡ true
 unfolding hex-text
 dark-hex n = ap dark (hex-is n) ∙ dark-from 15 n
+
+from-short : (k n : ℕ) → length (digits-from k n) ≤ k + 1
+from-short zero n = omega arith
+from-short (suc k) n =
+    cond-both (eqb (n / 16 ^ suc k) 0) [] (digitChar (n / 16 ^ suc k % 16) ∷ []) (λ xs. length (xs ++ digits-from k n) ≤ suc k + 1)
+    (λ _. omega (arith, from-short k n)) (λ _. omega (arith, from-short k n))
+
+pub length-hex : (n : ℕ) → length (hex-text n) ≤ 18
+unfolding hex-text
+length-hex n = omega (arith, ap length (hex-is n), from-short 15 n)

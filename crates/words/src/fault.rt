@@ -39,7 +39,11 @@ pub impl fmt::Display for Fault as FaultDisplay {
         match *self {
             Fault::Line(number) => write!(f, "line {number}: this is no item"),
             Fault::Item(number, refusal) => {
-                write!(f, "line {number}: no tape holds this item, refusal {}", refusal.number())
+                write!(
+                    f,
+                    "line {number}: no tape holds this item, refusal {}",
+                    refusal.number()
+                )
             }
             Fault::Tape(TapeRefusal { refusal, index }) => {
                 write!(f, "record {index}: refusal {}", refusal.number())

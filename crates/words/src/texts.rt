@@ -2,6 +2,7 @@
 ghost use Rattle.std.specs.Of.String.{string-bytes};
 ghost use Rattle.std.specs.Vec.{made};
 ghost use Rattle.tape.specs.Reader.{read-tape};
+ghost use Rattle.words.specs.Laws.{Tapes-read-back};
 ghost use Rattle.words.specs.Line.{item-text};
 ghost use Rattle.words.specs.Tapes.{Tells, items-text, tape-text, text-or};
 ghost use lib.ListN.{length};
@@ -9,6 +10,7 @@ ghost use mathlib.Core.List.{[], _∷_, _++_};
 ghost use mathlib.Core.Path.{_≡_};
 use crate::fault::Fault;
 use crate::fault::FaultFromAllocError;
+use crate::laws;
 use crate::line::Line;
 use crate::line::LineDisplay;
 use std::alloc::AllocError;
@@ -32,8 +34,10 @@ const BLANK: Item = Item {
 
 // The text of a tape: a line for each item.
 pub fn text_of(heap: Global, tape: &[u8]) -> Result<String, Fault>
-    ensures { λ r. ⌜ Tells string-bytes r (tape-text (now (tape .entry))) ⌝ }
+    ensures answer { λ r. ⌜ Tells string-bytes r (tape-text (now (tape .entry))) ⌝ }
+    ensures back { λ _. ⌜ Tapes-read-back ⌝ }
 {
+    laws::tapes_read_back();
     if tape.len() > TAPE_LIMIT {
         return Err(Fault::LongTape);
     }

@@ -9,4 +9,7 @@ use native.Mathlib.Omega.{arith}
 pub returns : need.returns
 returns c =
     let all : length (c .as-mut-slice .result .now) ≡ 4096 = search needs in
-    rw (← short (c .args .tape .now) (length (c .as-mut-slice .result .now)) (omega arith) all) (c .text-by .ensures)
+    record {
+      answer = rw (← short (c .args .tape .now) (length (c .as-mut-slice .result .now)) (omega arith) all) (c .text-by .ensures);
+      back = c .tapes-read-back .ensures;
+    }
