@@ -25,7 +25,7 @@ target/model/calculator: model/calculator.c model/bank.c model/bank.h
 	@mkdir -p target/model
 	@$(CC) $(CFLAGS) -o $@ model/calculator.c model/bank.c
 
-target/model/generate: model/generate.c
+target/model/generate: model/generate.c model/draws.h
 	@mkdir -p target/model
 	@$(CC) $(CFLAGS) -o $@ model/generate.c
 
@@ -33,7 +33,7 @@ target/model/tape: model/tape.c model/machine.c model/bank.c model/machine.h mod
 	@mkdir -p target/model
 	@$(CC) $(CFLAGS) -o $@ model/tape.c model/machine.c model/bank.c
 
-target/model/tapegen: model/tapegen.c
+target/model/tapegen: model/tapegen.c model/draws.h
 	@mkdir -p target/model
 	@$(CC) $(CFLAGS) -o $@ model/tapegen.c
 
