@@ -1,12 +1,12 @@
 -- the lowest entry whose range holds any byte of an access decides, and the verdict follows from it alone
-use Rattle.std.proofs.Common.{◌≡◌, ℕ, zero, suc, ◌+◌, ◌-◌, ◌<◌, ◌≤◌, min, max, Bool, true, false, cond, not, ◌&&◌, eqb, ltb, leb, ◌⊎◌, List, Some, None, Ok, Err, Option, Result, sym, refl, ap, ◌∙◌, subst, inl, inr, arith, MatchOption}
+use Rattle.std.proofs.Common.{◌≡◌, ℕ, zero, suc, ◌+◌, ◌-◌, ◌<◌, ◌≤◌, min, max, true, false, cond, not, ◌&&◌, eqb, leb, List, Some, None, Ok, Err, Option, Result, sym, refl, ap, ◌∙◌, subst, inl, inr, arith, MatchOption}
 use lib.Bits.{bit_and}
-use Rattle.std.proofs.lemmas.Bool.{and_parts, both_ways, cases_Bool, cases_eq, cond_both, eq-eqb, eqb-false, eqb-true, le-leb, leb-false, leb-true, ltb-false, ltb-true}
+use Rattle.std.proofs.lemmas.Bool.{and_parts, both_ways, cases_Bool, cases_eq, cond_both, eq-eqb, eqb-false, eqb-true, le-leb, ltb-false, ltb-true}
 use Rattle.std.proofs.lemmas.Bool.Decides.{nat_tests}
 use Rattle.refusals.specs.declared.Refusal.{Refusal}
 use Rattle.refusals.specs.declared.Refusal.TheVariants.{Kind as KindRefused}
 use Rattle.bank.specs.Content.{count, entry_of, is_locked}
-use Rattle.bank.specs.Laws.{Follows, Holds, HoldsAll, HoldsNone, HoldsSome, Lets, Lowest, LowestDecides}
+use Rattle.bank.specs.Laws.{Follows, HoldsAll, HoldsNone, HoldsSome, Lowest, LowestDecides}
 use Rattle.bank.specs.Ranges.{end, range_of}
 use Rattle.bank.specs.Verdicts.{covers, deciding, fault_cause, is_size, judged, kind_asked, kind_of, lowest, meets, needed_bit, privilege_asked, span_asked, verdict_of}
 use Rattle.bank.specs.declared.entry.Entry.{Entry}

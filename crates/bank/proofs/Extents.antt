@@ -1,10 +1,10 @@
 -- extents: they meet and cover spans as the ranges do, and every write keeps them so
-use Rattle.std.proofs.Common.{◌≡◌, ℕ, zero, suc, ◌+◌, ◌-◌, ◌<◌, Bool, true, false, cond, ◌&&◌, eqb, ltb, leb, ◌≢◌, ◌⊎◌, List, length, get_or, set, replicate, Some, None, Option, sym, refl, ap, ◌∙◌, inl, inr, arith, length-set, get_or-set_other, get_or-set_same}
+use Rattle.std.proofs.Common.{◌≡◌, ℕ, zero, suc, ◌+◌, ◌-◌, ◌<◌, true, cond, eqb, ◌≢◌, ◌⊎◌, List, length, get_or, set, replicate, Some, None, Option, refl, ap, ◌∙◌, inl, inr, arith, length-set, get_or-set_other, get_or-set_same}
 use Rattle.std.proofs.lemmas.Bool.{and_parts, cases_eq, eqb-true}
 use Rattle.std.proofs.lemmas.Bool.Decides.{nat_tests}
 use Rattle.bank.proofs.Four.{there}
 use Rattle.bank.proofs.Kept.{same_range, word_byte}
-use Rattle.bank.specs.Content.{blank, count, entry_of, put_byte, with_word, zero_entry}
+use Rattle.bank.specs.Content.{blank, count, put_byte, with_word, zero_entry}
 use Rattle.bank.specs.Ranges.{range_of, word_below}
 use Rattle.bank.specs.Extents.{keeps, keeps_all, keeps_below, no_extent, extent_covers, extent_meets}
 use Rattle.bank.specs.Verdicts.{covers, meets}

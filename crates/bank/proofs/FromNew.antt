@@ -1,13 +1,13 @@
 -- what holds of a bank that was new, whatever was written to it since
-use Rattle.std.proofs.Common.{◌≡◌, ℕ, zero, suc, ◌+◌, ◌-◌, ◌*◌, ◌<◌, ◌≤◌, Bool, true, false, cond, not, ◌&&◌, ◌||◌, eqb, ◌≢◌, ◌⊎◌, List, [], ◌∷◌, ◌++◌, length, get_or, replicate, sym, refl, ap, ◌∙◌, inl, inr, arith, length-set, get_or-set_other, get_or-set_same}
+use Rattle.std.proofs.Common.{◌≡◌, ℕ, zero, suc, ◌+◌, ◌-◌, ◌*◌, ◌<◌, ◌≤◌, true, false, cond, not, ◌||◌, eqb, ◌⊎◌, List, [], ◌∷◌, ◌++◌, length, get_or, replicate, sym, refl, ap, ◌∙◌, inl, inr, arith, length-set, get_or-set_other, get_or-set_same}
 use Rattle.std.proofs.lemmas.Bool.{and_parts, both_ways, cases_Bool, cases_eq, cond_both, eq-eqb, eqb-true}
 use Rattle.std.proofs.lemmas.Bool.Decides.{nat_tests}
 use Rattle.bank.proofs.Cleans.{clean_put_byte, set_either}
 use Rattle.bank.proofs.Kept.{through_four, through_write, word_byte}
 use Rattle.bank.specs.Clean.{Clean, is_clean}
-use Rattle.bank.specs.Content.{blank, bounds_locked_above, count, entry_of, is_locked, put_byte, put_four, put_word, with_word, zero_entry}
+use Rattle.bank.specs.Content.{blank, bounds_locked_above, count, entry_of, is_locked, put_byte, put_word, with_word, zero_entry}
 use Rattle.bank.specs.Laws.{AlwaysClean, PutsLast, PutsNone, WordsLastWritten, puts_word}
-use Rattle.bank.specs.Registers.{is_bytes_register, is_register, is_word_register, put, written}
+use Rattle.bank.specs.Registers.{is_bytes_register, is_register, is_word_register, written}
 use Rattle.bank.specs.Runs.{Change, Write, after_changes, after_write, after_writes, resets, writes}
 use Rattle.bank.specs.declared.entry.Entry.{Entry}
 

@@ -1,14 +1,13 @@
 -- a locked entry keeps its byte, its word and its range through any writes
-use Rattle.std.proofs.Common.{◌≡◌, ℕ, zero, suc, ◌+◌, ◌-◌, ◌*◌, ◌/◌, ◌%◌, ◌<◌, Bool, true, false, cond, eqb, leb, ◌≢◌, ◌⊎◌, List, [], ◌∷◌, ◌++◌, sym, refl, ap, ◌∙◌, inl, inr, arith, get_or-set_other}
+use Rattle.std.proofs.Common.{◌≡◌, ℕ, zero, suc, ◌+◌, ◌-◌, ◌*◌, ◌/◌, ◌%◌, ◌<◌, true, false, cond, eqb, leb, ◌≢◌, List, [], ◌∷◌, ◌++◌, sym, refl, ap, ◌∙◌, inl, inr, arith, get_or-set_other}
 use lib.Bits.{bit_and}
 use Rattle.std.proofs.lemmas.Bool.{both_ways, cases_Bool, cases_eq, cond_both, eqb-true, ne_eqb}
-use Rattle.std.proofs.lemmas.Bool.Decides.{nat_tests}
 use Rattle.bank.proofs.Cleans.{set_either}
 use Rattle.bank.specs.Content.{bounds_locked_above, count, entry_of, is_locked, is_tor, put_byte, put_four, put_word, stored_byte, with_byte, with_word}
 use Rattle.bank.specs.Laws.{Locked, LocksStand, OnlyResetsRelease}
-use Rattle.bank.specs.Ranges.{range_by, range_of, tor_range, word_below}
-use Rattle.bank.specs.Registers.{is_bytes_register, is_privilege, is_register, put, written}
-use Rattle.bank.specs.Runs.{Change, Write, after_change, after_changes, after_write, after_writes, resets, writes}
+use Rattle.bank.specs.Ranges.{range_by, range_of, word_below}
+use Rattle.bank.specs.Registers.{is_bytes_register, is_register, put, written}
+use Rattle.bank.specs.Runs.{Change, Write, after_changes, after_write, after_writes, resets, writes}
 use Rattle.bank.specs.declared.entry.Entry.{Entry}
 
 -- a write either changes nothing, or is made at machine privilege to a register

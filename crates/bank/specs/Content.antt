@@ -1,6 +1,10 @@
 -- the entries of a bank, and how bytes and words are written to them
-use Rattle.std.specs.Prelude.{ℕ, ◌+◌, ◌*◌, ◌/◌, ◌%◌, Bool, false, cond, not, ◌&&◌, List, replicate, ◌==◌, bit_and, slice_index_or, slice_set}
+use Rattle.std.specs.Prelude.{ℕ, ◌+◌, ◌*◌, ◌/◌, ◌%◌, Bool, false, cond, not, ◌&&◌, List, replicate, ◌==◌, nat_le, bit_and, slice_index_or, slice_set}
 use Rattle.bank.specs.declared.entry.Entry.{Entry}
+
+-- low ≤ n ≤ high
+abbrev pub between : ℕ → ℕ → ℕ → Bool
+between low n high = cond (nat_le low n) (nat_le n high) false
 
 -- how many entries a bank has
 abbrev pub count : ℕ

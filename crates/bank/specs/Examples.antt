@@ -1,11 +1,11 @@
 -- worked examples, shown of the definitions
-use Rattle.std.specs.Prelude.{◌≡◌, ℕ, ◌^◌, List, Some, None, Ok, Err}
+use Rattle.std.specs.Prelude.{◌≡◌, ℕ, ◌^◌, List, Some, Ok}
 use Rattle.bank.specs.Content.{blank, stored_byte}
 use Rattle.bank.specs.Ranges.{napot_range, range_of}
 use Rattle.bank.specs.Registers.{write_answer, written}
 use Rattle.bank.specs.Verdicts.{verdict_of}
 use Rattle.bank.specs.declared.entry.Entry.{Entry}
-use Rattle.bank.specs.declared.verdict.Verdict.TheVariants.{Allowed, Fault}
+use Rattle.bank.specs.declared.verdict.Verdict.TheVariants.{Fault}
 
 -- a new bank with words 0x2000 and 0x3000 in entries 0 and 1, and then a word written to 0x3A0
 abbrev pub two_tor : ℕ → List Entry

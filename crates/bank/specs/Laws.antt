@@ -1,5 +1,5 @@
 -- laws of the bank over its definitions, in the subject's words; the contracts of its calls carry them
-use Rattle.std.specs.Prelude.{◌≡◌, ℕ, ◌+◌, ◌-◌, ◌*◌, ◌/◌, ◌%◌, ◌^◌, ◌<◌, ◌≤◌, Bool, true, false, cond, not, ◌&&◌, ◌||◌, ◌⊎◌, List, [], ◌∷◌, ◌++◌, length, Some, None, Ok, Option, MatchOption, ◌==◌, ◌≢◌, bit_and}
+use Rattle.std.specs.Prelude.{◌≡◌, ℕ, ◌+◌, ◌-◌, ◌*◌, ◌/◌, ◌%◌, ◌^◌, ◌<◌, ◌≤◌, Bool, true, false, cond, not, ◌&&◌, ◌||◌, ◌⊎◌, List, ◌∷◌, ◌++◌, length, Some, None, Ok, Option, MatchOption, ◌==◌, ◌≢◌, bit_and}
 use Rattle.bank.specs.Clean.{Clean}
 use Rattle.bank.specs.Content.{blank, bounds_locked_above, count, entry_of, is_locked, stored_byte}
 use Rattle.bank.specs.Ranges.{napot_range, range_of, range_word}

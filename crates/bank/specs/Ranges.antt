@@ -1,7 +1,6 @@
 -- ranges: the first byte, and the byte after the last
 use Rattle.std.specs.Prelude.{ℕ, zero, suc, ◌+◌, ◌-◌, ◌*◌, ◌/◌, ◌%◌, ◌^◌, min, Bool, cond, List, [], ◌∷◌, Some, None, Ok, Err, Option, Result, ◌==◌, bit_and, nat_le, nat_lt}
-use Rattle.bank.specs.Content.{count, entry_of}
-use Rattle.bank.specs.Registers.{between}
+use Rattle.bank.specs.Content.{between, count, entry_of}
 use Rattle.bank.specs.declared.entry.Entry.{Entry}
 use Rattle.refusals.specs.Questions.{ruled, ruling}
 use Rattle.refusals.specs.declared.Refusal.{Refusal}

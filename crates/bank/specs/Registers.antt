@@ -1,6 +1,6 @@
 -- reads and writes of the registers: their questions, their answers and what they leave
-use Rattle.std.specs.Prelude.{ℕ, ◌+◌, ◌-◌, ◌*◌, Bool, true, false, cond, ◌||◌, List, [], ◌∷◌, Ok, Err, Result, ◌==◌, nat_le}
-use Rattle.bank.specs.Content.{entry_of, four_bytes, put_four, put_word}
+use Rattle.std.specs.Prelude.{ℕ, ◌-◌, ◌*◌, Bool, true, cond, List, [], ◌∷◌, Ok, Err, Result, ◌==◌, nat_le}
+use Rattle.bank.specs.Content.{between, entry_of, four_bytes, put_four, put_word}
 use Rattle.bank.specs.declared.entry.Entry.{Entry}
 use Rattle.bank.specs.declared.bank.Bank.{Bank}
 use Rattle.refusals.specs.Questions.{ruled, ruling}
@@ -10,10 +10,6 @@ use Rattle.refusals.specs.declared.Refusal.TheVariants.{Privilege, NotMachine, N
 -- what a bank holds: its entries, 0 to 15
 abbrev pub content : Bank → List Entry
 content b = b.entries.list
-
--- low ≤ n ≤ high
-abbrev pub between : ℕ → ℕ → ℕ → Bool
-between low n high = cond (nat_le low n) (nat_le n high) false
 
 -- privilege 0 (user), 1 (supervisor) or 3 (machine)
 abbrev pub is_privilege : ℕ → Bool

@@ -1,4 +1,6 @@
 // Sixteen entries of physical memory protection: registers, locks, ranges and verdicts.
+#![tactic(auto)]
+
 mod bank;
 mod changes;
 mod entries;

@@ -1,5 +1,7 @@
 // Runs workloads over the bank, the machine and the tape, so that their cost can be measured. For
 // each it prints a line: its name, how many rounds it ran, and a checksum of all answers.
+#![tactic(auto)]
+
 mod accesses;
 mod checksum;
 mod destroys;

@@ -1,6 +1,6 @@
 -- the digits of a number, read back
 use Rattle.std.proofs.Common.{◌≡◌, ℕ, zero, suc, ◌+◌, ◌*◌, ◌/◌, ◌%◌, ◌^◌, ◌<◌, ◌≤◌, Bool, true, false, cond, not, ◌&&◌, eqb, leb, List, ◌∷◌, length, drop, Some, None, Option, refl, ap, ◌∙◌, inl, inr, mod-lt, mod-eq_of_lt, mul_assoc, add-mul, mul_left_comm, arith}
-use Rattle.bank.specs.Registers.{between}
+use Rattle.bank.specs.Content.{between}
 use Rattle.calculator.specs.Hex.{hex_text}
 use Rattle.calculator.specs.Laws.{NumbersReadBack}
 use Rattle.calculator.specs.Numbers.{bare, digit_value, digits_value, number_value}

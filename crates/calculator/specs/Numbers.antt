@@ -1,6 +1,6 @@
 -- numbers as a script writes them: hexadecimal digits, after 0x or not
 use Rattle.std.specs.Prelude.{ℕ, ◌+◌, ◌-◌, ◌*◌, cond, ◌&&◌, List, [], ◌∷◌, length, drop, Some, None, Option, ◌==◌, slice_index}
-use Rattle.bank.specs.Registers.{between}
+use Rattle.bank.specs.Content.{between}
 use Rattle.calculator.specs.Options.{and_then}
 
 -- the value of a digit: 0 to 9, a to f and A to F

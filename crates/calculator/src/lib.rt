@@ -1,4 +1,6 @@
 // A calculator of memory protection: a script of commands for a bank, and its answers.
+#![tactic(auto)]
+
 mod answer;
 mod command;
 mod cut;

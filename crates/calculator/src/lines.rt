@@ -1,6 +1,6 @@
 // The lines of a script.
 ghost use Rattle.std.specs.Prelude.{◌≡◌, ◌<◌, [], ◌∷◌, length, IfSome, MatchOption};
-ghost use Rattle.calculator.specs.Lines.{is_silent, script_lines, without_return as unreturned as returnless};
+ghost use Rattle.calculator.specs.Lines.{is_silent, script_lines, without_return as returnless};
 
 use crate::cut::cut;
 

@@ -1,5 +1,5 @@
 -- the bank's refusals of an access are those of the roll
-use Rattle.std.proofs.Common.{◌≡◌, ℕ, zero, suc, ◌+◌, ◌^◌, ◌≤◌, Bool, true, false, eqb, leb, ◌⊎◌, List, IfOk, Some, None, Ok, Err, Option, Result, sym, refl, ap, ◌∙◌, inl, inr, arith, MatchResult}
+use Rattle.std.proofs.Common.{◌≡◌, ℕ, zero, suc, ◌+◌, ◌^◌, ◌≤◌, true, false, eqb, leb, List, IfOk, Some, None, Ok, Err, Option, Result, refl, ap, ◌∙◌, inl, inr, arith, MatchResult}
 use Rattle.bank.specs.Ranges.{end}
 use Rattle.bank.specs.Verdicts.{deciding, is_size, judged, kind_asked, kind_of, span_asked, verdict_of}
 use Rattle.bank.specs.declared.entry.Entry.{Entry}

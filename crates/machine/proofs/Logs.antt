@@ -1,5 +1,5 @@
 -- a log of calls, one answer after another
-use Rattle.std.proofs.Common.{◌≡◌, ℕ, ◌+◌, ◌<◌, ◌≤◌, List, [], ◌∷◌, ◌++◌, length, get_or, take, drop, set, sym, refl, ap, ◌∙◌, append_assoc, append-nil, add-zero, arith}
+use Rattle.std.proofs.Common.{◌≡◌, ℕ, ◌+◌, ◌<◌, ◌≤◌, [], ◌∷◌, ◌++◌, length, get_or, take, drop, set, sym, ap, ◌∙◌, append_assoc, arith}
 use Rattle.monitor.specs.Content.{Content, after, answer, banked, call_after, call_answer}
 use Rattle.monitor.specs.Theorem.{Log, calls, log, ran}
 use Rattle.monitor.specs.declared.answer.Answer.{Answer}

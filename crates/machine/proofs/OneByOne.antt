@@ -1,5 +1,5 @@
 -- one slot after another
-use Rattle.std.proofs.Common.{◌≡◌, ℕ, suc, ◌+◌, Bool, true, ◌&&◌, refl, ap, add-one}
+use Rattle.std.proofs.Common.{◌≡◌, ℕ, ◌+◌, true, ◌&&◌, refl, add-one}
 use Rattle.monitor.specs.Roll.{apart, apart_below}
 use Rattle.monitor.specs.Slots.{ranged}
 use Rattle.monitor.specs.declared.slot.Slot.{Slot}

@@ -1,5 +1,5 @@
 -- zeros stored eight bytes at a time
-use Rattle.std.proofs.Common.{◌≡◌, ℕ, suc, ◌+◌, List, refl}
+use Rattle.std.proofs.Common.{◌≡◌, ℕ, suc, ◌+◌, List}
 use Rattle.bank.specs.declared.entry.Entry.{Entry}
 use Rattle.monitor.specs.Content.{wiped, wiped_eight}
 

@@ -1,4 +1,6 @@
 // A machine: a bank of protection registers and a memory, joined under an enclave monitor.
+#![tactic(auto)]
+
 mod access;
 mod bytes;
 mod calls;

@@ -1,10 +1,8 @@
 -- where each byte of a memory lies
-use Rattle.std.proofs.Common.{◌≡◌, ℕ, zero, suc, ◌+◌, ◌*◌, ◌/◌, ◌%◌, ◌^◌, ◌<◌, ◌≤◌, min, ◌≢◌, List, [], ◌∷◌, length, get_or, set, Some, None, sym, refl, ap, ◌∙◌, arith, length-set, get_or-set_other, get_or-set_same}
+use Rattle.std.proofs.Common.{◌≡◌, ℕ, zero, suc, ◌+◌, ◌*◌, ◌/◌, ◌%◌, ◌^◌, ◌<◌, ◌≢◌, List, [], ◌∷◌, length, get_or, set, Some, sym, refl, ap, ◌∙◌, arith, length-set}
 use Rattle.std.proofs.lemmas.List.{set_past}
-use Rattle.std.proofs.lemmas.Option.{slice_get-get_or}
 use Rattle.std.specs.List.{slice_get}
 use Rattle.memory.specs.Laws.{BytesInPlace, HalvesInTurn, ReadsBack, WordsInPlace}
-use Rattle.memory.specs.Meaning.{joined_bytes}
 use Rattle.memory.specs.Turns.{turns}
 use Rattle.memory.specs.Words.{four, spread}
 use Rattle.memory.proofs.Front.{front_rest, length_front, nth_front}

@@ -1,4 +1,6 @@
 // Memories: one meaning, several layouts.
+#![tactic(auto)]
+
 mod buffer;
 mod byte;
 mod laws;

@@ -1,5 +1,5 @@
 -- the bank is a function of the roll, entry by entry
-use Rattle.std.proofs.Common.{◌≡◌, ℕ, ◌+◌, ◌-◌, ◌/◌, ◌<◌, ◌≤◌, Bool, cond, List, length, Some, None, Option}
+use Rattle.std.proofs.Common.{◌≡◌, ℕ, ◌+◌, ◌-◌, ◌/◌, ◌<◌, ◌≤◌, cond, List, length, Some, None, Option}
 use Rattle.bank.specs.Content.{count, entry_of, zero_entry}
 use Rattle.bank.specs.declared.entry.Entry.{Entry}
 use Rattle.monitor.specs.Layout.{first_slot, opened, os_entry, shut, supervisor, user}

@@ -13,7 +13,7 @@ use Rattle.monitor.specs.declared.slot.Party.{Party}
 use Rattle.monitor.specs.declared.slot.Party.TheVariants.{Os, Enclave}
 use Rattle.monitor.specs.declared.slot.Slot.{Slot}
 use Rattle.monitor.specs.declared.slot.Slot.TheVariants.{Free, Fresh, Running, Stopped, Finished}
-use Rattle.monitor.proofs.Sound.{Shaped, Sound}
+use Rattle.monitor.proofs.Sound.{Sound}
 
 -- Questions.
 

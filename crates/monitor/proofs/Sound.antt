@@ -3,7 +3,7 @@ use Rattle.std.proofs.Common.{◌≡◌, ℕ, ◌+◌, ◌%◌, ◌^◌, ◌<◌
 use Rattle.monitor.specs.Layout.{common_past, first_slot, os_entry}
 use Rattle.monitor.specs.Roll.{Holds, Roll}
 use Rattle.monitor.specs.Slots.{is_running, ranged}
-use Rattle.monitor.specs.declared.slot.Party.TheVariants.{Os, Enclave}
+use Rattle.monitor.specs.declared.slot.Party.TheVariants.{Enclave}
 
 -- a slot's number, and a range of a power of two at a multiple of it
 pub record Shaped (i f t : ℕ) : Type 0 where

@@ -13,7 +13,6 @@ use Rattle.monitor.specs.Slots.{moved, ranged}
 use Rattle.monitor.specs.Theorem.{System}
 use Rattle.monitor.specs.declared.answer.Answer.{Answer}
 use Rattle.monitor.specs.declared.answer.Answer.TheVariants.{Done, Fault, Refused}
-use Rattle.monitor.specs.declared.answer.Layer.{Layer}
 use Rattle.monitor.specs.declared.answer.Layer.TheVariants.{Protection, Memory}
 use Rattle.monitor.specs.declared.call.Call.{Call}
 use Rattle.monitor.specs.declared.call.Call.TheVariants.{Create, Enter, Pause, Finish, Destroy, Access, Register}

@@ -1,6 +1,6 @@
 -- The roll: which slots are live, at which stage and with which ranges, and who runs, told from the memory's length and
 -- the calls alone.
-use Rattle.std.specs.Prelude.{◌≡◌, ℕ, zero, suc, ◌+◌, ◌%◌, ◌^◌, ◌<◌, ◌≤◌, Bool, true, false, cond, not, ◌&&◌, ◌||◌, ◌⊎◌, List, [], ◌∷◌, Some, None, Ok, Err, Option, Result, ◌==◌, ◌≢◌, nat_le}
+use Rattle.std.specs.Prelude.{ℕ, zero, suc, ◌+◌, ◌%◌, ◌^◌, ◌<◌, ◌≤◌, Bool, true, false, cond, not, ◌&&◌, ◌||◌, ◌⊎◌, List, [], ◌∷◌, Some, None, Ok, Option, Result, ◌==◌, ◌≢◌, nat_le}
 use Rattle.bank.specs.Ranges.{end}
 use Rattle.bank.specs.Verdicts.{is_size}
 use Rattle.monitor.specs.Layout.{common_first, common_past, first_slot, last_slot, os_entry, starts}

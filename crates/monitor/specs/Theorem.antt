@@ -1,6 +1,6 @@
 -- An enclave is closed off: a property of any kind of machine, in terms of its answers, its memory's bytes and the roll.
 -- It holds over every list of bytes: where that starts no machine, no call is accepted.
-use Rattle.std.specs.Prelude.{◌≡◌, ℕ, ◌+◌, ◌^◌, ◌<◌, ◌≤◌, Bool, true, cond, List, [], ◌∷◌, map, length, Ok, Err, Result, ◌≢◌, slice_index}
+use Rattle.std.specs.Prelude.{◌≡◌, ℕ, ◌+◌, ◌^◌, ◌<◌, ◌≤◌, Bool, true, cond, List, [], ◌∷◌, map, length, Err, Result, ◌≢◌, slice_index}
 use Rattle.monitor.specs.Bytes.{accessed, stored}
 use Rattle.monitor.specs.Layout.{common_first, common_past}
 use Rattle.monitor.specs.Roll.{Accepted, Holds, May, Roll, judges, next, only, rolled, start, within}

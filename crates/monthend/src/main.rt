@@ -1,6 +1,8 @@
 // The month's end of two credit unions on one box, from beginning to end: their jobs run in
 // enclaves of their own, and the operating system sees only what they hand over. Every number
 // that is printed is computed.
+#![tactic(auto)]
+
 mod job;
 mod layouts;
 mod outcome;

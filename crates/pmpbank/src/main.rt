@@ -1,5 +1,7 @@
 // Reads a script of commands for a bank of protection registers from standard input, and
 // prints the answers.
+#![tactic(auto)]
+
 use std::env;
 use std::io::Read;
 

@@ -1,5 +1,7 @@
 // Runs a tape from standard input on a new machine over 65,536 zeros, and prints a line for each
 // record.
+#![tactic(auto)]
+
 use machine::Machine;
 use memory::ByteMemory;
 use std::io::Read;

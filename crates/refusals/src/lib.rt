@@ -1,5 +1,7 @@
 // The refusals of the whole product. Every call puts its questions in a fixed order; the
 // first that is answered "no" refuses the call, and its number is the refusal's.
+#![tactic(auto)]
+
 ghost use Rattle.refusals.specs.Numbers.{refusal_number};
 ghost use Rattle.std.specs.Prelude.{◌≡◌};
 

@@ -5,7 +5,6 @@ use Rattle.monitor.specs.declared.answer.Answer.{Answer}
 use Rattle.monitor.specs.declared.call.Call.{Call}
 use Rattle.refusals.specs.declared.Refusal.{Refusal}
 use Rattle.std.proofs.lemmas.List.{append_assoc, append-nil, at_drop_more, flat_map_more, map_push, take_more}
-use Rattle.std.specs.List.{flat_map}
 use Rattle.tape.specs.Calls.{call_of, calls_of, one_call}
 use Rattle.tape.specs.Line.{line_text}
 use Rattle.tape.specs.Reports.{lines_from}

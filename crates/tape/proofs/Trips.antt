@@ -6,7 +6,7 @@ use Rattle.std.proofs.lemmas.Bool.{le-leb, eq-eqb, eqb-true}
 use Rattle.std.specs.Int.Digits.{AllBelowBase}
 use Rattle.tape.proofs.Parts.{parts}
 use Rattle.tape.proofs.Records.{decode_encode, encode_decode, encoded_length}
-use Rattle.refusals.specs.declared.Refusal.TheVariants.{NoPlace, Operation}
+use Rattle.refusals.specs.declared.Refusal.TheVariants.{Operation}
 use Rattle.tape.specs.Item.{item, largest_of}
 use Rattle.tape.specs.Refusal.{refused_at}
 use Rattle.tape.specs.Laws.{OneTape, ReadsBack}

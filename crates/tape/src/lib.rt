@@ -1,4 +1,6 @@
 // The tape: calls as packed records of 16 bytes, read and written whole, and run on a machine.
+#![tactic(auto)]
+
 mod calls;
 mod item;
 mod laws;

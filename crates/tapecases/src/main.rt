@@ -1,4 +1,6 @@
 // Runs each tape that its arguments name, as pmprun does, and prints what each run prints.
+#![tactic(auto)]
+
 use machine::Machine;
 use memory::{ByteMemory, Memory};
 use std::{env, fs};

@@ -1,4 +1,6 @@
 // Turns a tape into text, and such text into a tape.
+#![tactic(auto)]
+
 use anyhow::anyhow;
 use std::io::{Read, Write};
 use std::{env, io};

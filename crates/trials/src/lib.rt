@@ -1,5 +1,7 @@
 // Tables of examples for the layers below. What is expected was worked out by hand from the
 // rules in docs/, never from the code.
+#![tactic(auto)]
+
 mod answers;
 #[cfg(test)]
 mod machines;

@@ -1,4 +1,6 @@
 // The text form of tapes: a line of words and numbers for each item.
+#![tactic(auto)]
+
 mod cut;
 mod fault;
 mod fields;

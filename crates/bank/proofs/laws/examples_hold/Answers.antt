@@ -1,6 +1,5 @@
 use Rattle.std.proofs.Common.{refl}
 use Rattle.bank.specs.Content.{put_four}
-use Rattle.bank.specs.Examples.{Examples}
 use Rattle.bank.specs.Ranges.{trailing_ones}
 use Rattle.bank.specs.Verdicts.{lowest}
 use Rattle.bank.proofs.laws.examples_hold.Goals as goal

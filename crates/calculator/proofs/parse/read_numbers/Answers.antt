@@ -13,18 +13,18 @@ returns-then-count-places c =
     let left = c.loop-rest.invariant.1 ∙ ap (λ (o : Option (Bor (List ℕ))). in_front front (numbers (words_left (option_map (λ x. x.now) o)))) c.in-Some.is in
     let full = length-take-le c.loop-rest.count c.loop-rest.places c.loop-rest.invariant.0 in
     record {
-      answer = numbers_over _ front c.in-Some.text.now _ (option_map (λ x. x.now) c.first-word.result.1) left c.first-word.ensures
+      answer = numbers_over _ front c.in-Some.text.now _ (option_map (λ x. x.now) c.first_word.result.1) left c.first_word.ensures
           (length c.args.places.now) (omega (arith, full, c.loop-rest.auto.places));
       within = tt;
     }
 
-pub returns-in-err-places : goal.returns-in-err-places
-returns-in-err-places c =
+pub returns-in_err-places : goal.returns-in_err-places
+returns-in_err-places c =
     let front = take c.loop-rest.count c.loop-rest.places in
     let left = c.loop-rest.invariant.1 ∙ ap (λ (o : Option (Bor (List ℕ))). in_front front (numbers (words_left (option_map (λ x. x.now) o)))) c.in-Some.is in
-    rw c.from-residual.ensures (record {
-      answer = numbers_none _ front c.in-Some.text.now _ (option_map (λ x. x.now) c.first-word.result.1) left c.first-word.ensures
-          (length c.args.places.now) c.in-err-places.ensures.answer;
+    rw c.from_residual.ensures (record {
+      answer = numbers_none _ front c.in-Some.text.now _ (option_map (λ x. x.now) c.first_word.result.1) left c.first_word.ensures
+          (length c.args.places.now) c.in_err-places.ensures.answer;
       within = tt;
     })
 
@@ -34,6 +34,6 @@ loop-rest-preserved c =
     let fits : c.loop-rest.count < length c.loop-rest.places = omega arith in
     let left = c.loop-rest.invariant.1 ∙ ap (λ (o : Option (Bor (List ℕ))). in_front front (numbers (words_left (option_map (λ x. x.now) o)))) c.in-Some.is in (
       simp length-set (omega arith),
-      numbers_more _ front c.in-Some.text.now _ (option_map (λ x. x.now) c.first-word.result.1) left c.first-word.ensures
-          c.loop-rest.places c.loop-rest.count c.in-ok-places.field-0 refl fits c.in-ok-places.ensures.answer,
+      numbers_more _ front c.in-Some.text.now _ (option_map (λ x. x.now) c.first_word.result.1) left c.first_word.ensures
+          c.loop-rest.places c.loop-rest.count c.in_ok-places.field-0 refl fits c.in_ok-places.ensures.answer,
     )

@@ -1,4 +1,4 @@
-use Rattle.std.proofs.Common.{◌≡◌, suc, ◌+◌, ◌-◌, length, sym, ap, ◌∙◌, arith, rules}
+use Rattle.std.proofs.Common.{◌≡◌, suc, ◌+◌, ◌-◌, length, ap, ◌∙◌, arith}
 use Rattle.machine.proofs.Stores.{filled_more, nth_or, number_eight, length_filled}
 use Rattle.machine.proofs.bytes.load.Goals as goal
 

@@ -1,4 +1,3 @@
-use Rattle.std.proofs.Common.{rules}
 use Rattle.monitor.specs.Content.{new_bank}
 use Rattle.machine.proofs.machine.set_up.Goals as goal
 

@@ -1,4 +1,4 @@
-use Rattle.std.proofs.Common.{ap, ◌∙◌, arith, rules}
+use Rattle.std.proofs.Common.{ap, arith, rules}
 use Rattle.memory.specs.Bytes.{front, rest}
 use Rattle.std.proofs.lemmas.List.{with_items_is}
 use Rattle.memory.proofs.buffer.put_in.Goals as goal

@@ -17,4 +17,4 @@ returns c =
     let ws = c.args.words.now in
     let p : ℕ = c.args.place in
     let h : p < length (front (spread ws)) = omega arith in
-    ap (λ l. Some (get_or l (p % 4) 0)) c.to-le-bytes-bytes.ensures ∙ sym (spread_read ws p h)
+    ap (λ l. Some (get_or l (p % 4) 0)) c.to_le_bytes-bytes.ensures ∙ sym (spread_read ws p h)

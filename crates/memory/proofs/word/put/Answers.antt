@@ -13,8 +13,8 @@ pub index-requires : goal.index-requires
 index-requires c = let ws = c.args.words.now.items in
     omega (arith, ap (λ xs. length (front (spread xs))) c.deref.ensures.value, length_front (spread ws), length_spread ws)
 
-pub index-mut-requires : goal.index-mut-requires
-index-mut-requires c = let ws = c.args.words.now.items in
+pub index_mut-requires : goal.index_mut-requires
+index_mut-requires c = let ws = c.args.words.now.items in
     omega (arith, ap (λ xs. length (front (spread xs))) c.deref.ensures.value, length_front (spread ws), length_spread ws)
 
 pub returns : goal.returns
@@ -25,7 +25,7 @@ returns c =
     record {
       answer = search rules;
       after =
-          spread_write ws p h c.index.result.now c.index.ensures c.args.byte _ _ (omega arith) c.to-le-bytes-bytes.ensures c.from-le-bytes.ensures;
+          spread_write ws p h c.index.result.now c.index.ensures c.args.byte _ _ (omega arith) c.to_le_bytes-bytes.ensures c.from_le_bytes.ensures;
       beyond =
-          spread_beyond ws p h c.index.result.now c.index.ensures c.args.byte _ _ (omega arith) c.to-le-bytes-bytes.ensures c.from-le-bytes.ensures;
+          spread_beyond ws p h c.index.result.now c.index.ensures c.args.byte _ _ (omega arith) c.to_le_bytes-bytes.ensures c.from_le_bytes.ensures;
     }

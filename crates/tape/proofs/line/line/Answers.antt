@@ -6,7 +6,7 @@ use Rattle.std.proofs.Common.{ℕ, List, [], ◌∷◌, ◌++◌, decimal, ap, �
 -- the format's text is known up to the digits, which `hex` gives
 pub returns : goal.returns
 returns c =
-    let digits = c.as-str-digits.ensures.value ∙ c.in-ok-digits.ensures ∙ ap hex_text c.value.ensures in
+    let digits = c.as_str-digits.ensures.value ∙ c.in_ok-digits.ensures ∙ ap hex_text c.value.ensures in
     IfOk-weaker c.format.result _ _
     (λ t h. h ∙ ap (λ (l : List ℕ). decimal c.args.index ++ (32 ∷ (code_text c.args.answer ++ (32 ∷ (l ++ (10 ∷ [])))))) digits)
     c.format.ensures.ok

@@ -11,5 +11,5 @@ returns-in-Err c =
 pub loop-i-preserved : goal.loop-i-preserved
 loop-i-preserved c =
     c.loop-i.invariant
-    ∙ ap verdict (goes c.args.count c.loop-i.i c.args.tape.now c.in-default.field-0 (omega arith) c.in-default.ensures)
-    ∙ verdict_prepend (c.in-default.field-0 ∷ []) _
+    ∙ ap verdict (goes c.args.count c.loop-i.i c.args.tape.now c.in_default.field-0 (omega arith) c.in_default.ensures)
+    ∙ verdict_prepend (c.in_default.field-0 ∷ []) _

@@ -1,8 +1,8 @@
-use Rattle.std.proofs.Common.{◌≡◌, ◌<◌, length, take, drop, ap, ◌∙◌, arith}
+use Rattle.std.proofs.Common.{◌≡◌, ◌<◌, length, take, ap, ◌∙◌, arith}
 use Rattle.tape.proofs.Parts.{front_more, front_all, refused_whole}
 use Rattle.tape.proofs.Reading.{stops, goes, reading_none}
 use Rattle.tape.proofs.reader.put_items.Goals as goal
-use Rattle.tape.proofs.reader.put_items.Goals.{in-Ok, in-default}
+use Rattle.tape.proofs.reader.put_items.Goals.{in-Ok, in_default}
 use Rattle.tape.specs.Refusal.{prepend}
 
 pub loop-i-preserved : goal.loop-i-preserved
@@ -11,8 +11,8 @@ loop-i-preserved c =
     elim c.match-decode.branch [
       | in-Ok w ↦ rw w.items-is (front_more _ _ _ c.loop-i.items c.args.items.now c.loop-i.i w.in-Ok.item c.loop-i.invariant.0
           (goes c.args.count c.loop-i.i c.args.tape.now w.in-Ok.item (omega arith) w.in-Ok.ensures) below c.loop-i.invariant.1)
-      | in-default w ↦ absurd (refused_whole _ _ _ _ c.loop-i.invariant.0
-          (stops c.args.count c.loop-i.i c.args.tape.now w.in-default.field-0 (omega arith) w.in-default.ensures) c.requires.accepted)
+      | in_default w ↦ absurd (refused_whole _ _ _ _ c.loop-i.invariant.0
+          (stops c.args.count c.loop-i.i c.args.tape.now w.in_default.field-0 (omega arith) w.in_default.ensures) c.requires.accepted)
     ]
 
 pub returns : goal.returns

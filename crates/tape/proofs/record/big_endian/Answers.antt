@@ -1,4 +1,4 @@
-use Rattle.std.proofs.Common.{◌≡◌, ◌<◌, length, get_or, take, ap, pow-suc, add-one, arith}
+use Rattle.std.proofs.Common.{◌≡◌, ◌<◌, length, ap, pow-suc, add-one, arith}
 use Rattle.std.proofs.lemmas.Int.Digits.{number_more}
 use Rattle.std.proofs.lemmas.List.{take_all}
 use Rattle.std.specs.Int.Digits.{number_from_digits}
@@ -9,7 +9,7 @@ pub loop-b-preserved : goal.loop-b-preserved
 loop-b-preserved c =
     let i = c.loop-b.b-index in
     let within : i < length c.args.bytes.now = omega arith in
-    let byte : c.from.result < 256 = omega (arith, c.type-inv.bytes i) in
+    let byte : c.from.result < 256 = omega (arith, c.type_inv.bytes i) in
     let joined = byte_more c.loop-b.n c.from.result i c.loop-b.invariant.1 (omega arith) byte in
     let more = number_more 256 c.args.bytes.now i within in
     (omega (arith, joined, more, c.loop-b.invariant.0), simp add-one (omega (arith, joined, pow-suc 256 i)))

@@ -1,6 +1,6 @@
 use Rattle.tape.proofs.Packing.{all_joined}
 use Rattle.tape.proofs.record.combine.Goals as goal
-use Rattle.std.proofs.Common.{◌≡◌, ◌∙◌, arith}
+use Rattle.std.proofs.Common.{◌∙◌, arith}
 
 pub returns : goal.returns
 returns c =

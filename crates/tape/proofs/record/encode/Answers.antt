@@ -5,4 +5,4 @@ use Rattle.tape.specs.Record.{bytes_of, packed}
 
 pub returns : goal.returns
 returns c =
-    ap Ok c.pack.ensures ∙ ap (λ q. ruled q (Ok (bytes_of 16 (packed c.args.item))) Err) c.in-ok-asked.ensures.answer
+    ap Ok c.pack.ensures ∙ ap (λ q. ruled q (Ok (bytes_of 16 (packed c.args.item))) Err) c.in_ok-asked.ensures.answer

@@ -11,8 +11,8 @@ returns-in-Err c =
 pub loop-i-preserved : goal.loop-i-preserved
 loop-i-preserved c =
     c.loop-i.invariant
-    ∙ ap verdict (item_goes c.loop-i.i c.args.items.now _ c.in-default.field-0 (omega arith) c.in-default.ensures)
-    ∙ verdict_prepend c.in-default.field-0 _
+    ∙ ap verdict (item_goes c.loop-i.i c.args.items.now _ c.in_default.field-0 (omega arith) c.in_default.ensures)
+    ∙ verdict_prepend c.in_default.field-0 _
 
 pub returns : goal.returns
 returns c = sym (c.loop-i.invariant ∙ ap verdict (writing_none c.loop-i.i c.args.items.now c.loop-i-test.false))

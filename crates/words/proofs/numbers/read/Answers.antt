@@ -3,14 +3,14 @@ use Rattle.std.proofs.Common.{◌<◌, length, Some, ◌∙◌, arith, rules}
 use Rattle.words.proofs.Reading.{digit_next, digit_none, digits_all}
 use Rattle.words.proofs.numbers.read.Goals as goal
 
-pub returns-in-err-n : goal.returns-in-err-n
-returns-in-err-n c =
-    c.from-residual.ensures
-    ∙ digit_none c.args.base c.args.digits.now c.loop-byte.n c.loop-byte.byte-index c.loop-byte.invariant (omega arith) c.in-err-n.ensures
+pub returns-in_err-n : goal.returns-in_err-n
+returns-in_err-n c =
+    c.from_residual.ensures
+    ∙ digit_none c.args.base c.args.digits.now c.loop-byte.n c.loop-byte.byte-index c.loop-byte.invariant (omega arith) c.in_err-n.ensures
 
 pub loop-byte-preserved : goal.loop-byte-preserved
 loop-byte-preserved c =
-    digit_next c.args.base c.args.digits.now c.loop-byte.n c.loop-byte.byte-index c.loop-byte.invariant (omega arith) (Some _) c.in-ok-n.ensures
+    digit_next c.args.base c.args.digits.now c.loop-byte.n c.loop-byte.byte-index c.loop-byte.invariant (omega arith) (Some _) c.in_ok-n.ensures
 
 pub returns : goal.returns
 returns c =

@@ -5,8 +5,9 @@ use Rattle.std.proofs.Common.{◌≡◌, length, arith, rules}
 
 pub returns : goal.returns
 returns c =
-    let all : length c.as-mut-slice.result.now ≡ 4096 = search rules in
+    let all : length c.as_mut_slice.result.now ≡ 4096 = search rules in
     record {
-      answer = rw (← short c.args.tape.now (length c.as-mut-slice.result.now) (omega arith) all) c.text-by.ensures;
-      back = c.tapes-read-back.ensures;
+      answer = rw (← short c.args.tape.now (length c.as_mut_slice.result.now) (omega arith) all) c.text_by.ensures;
+      long = λ h. absurd (omega (arith, h));
+      back = c.tapes_read_back.ensures;
     }

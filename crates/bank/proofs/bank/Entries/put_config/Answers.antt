@@ -1,5 +1,3 @@
-use Rattle.std.proofs.Common.{rules}
-use Rattle.bank.specs.Content.{zero_entry}
 use Rattle.std.proofs.lemmas.List.{set-get_or}
 use Rattle.bank.proofs.bank.Entries.put_config.Goals as goal
 

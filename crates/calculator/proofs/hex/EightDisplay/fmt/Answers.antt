@@ -3,4 +3,4 @@ use Rattle.calculator.proofs.Digits.{eight_text}
 use Rattle.calculator.proofs.hex.EightDisplay.fmt.Goals as goal
 
 pub returns-clause-writes : goal.returns-clause-writes
-returns-clause-writes g c = rw (← eight_text c.args.self.now.0 c.to-be-bytes.result c.to-be-bytes.ensures) c.write.ensures.writes
+returns-clause-writes g c = rw (← eight_text c.args.self.now.0 c.to_be_bytes.result c.to_be_bytes.ensures) c.write.ensures.writes

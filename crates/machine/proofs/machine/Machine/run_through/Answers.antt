@@ -1,4 +1,4 @@
-use Rattle.std.proofs.Common.{◌≡◌, length, sym, ◌∙◌, arith}
+use Rattle.std.proofs.Common.{sym, ◌∙◌, arith}
 use Rattle.machine.specs.State.{content_of}
 use Rattle.monitor.specs.declared.answer.Answer.TheVariants.{Done}
 use Rattle.monitor.specs.declared.call.Call.TheVariants.{Pause}

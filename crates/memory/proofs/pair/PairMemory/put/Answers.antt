@@ -1,4 +1,4 @@
-use Rattle.std.proofs.Common.{◌<◌, length, ap, ◌∙◌, arith, rules}
+use Rattle.std.proofs.Common.{◌<◌, length, arith, rules}
 use Rattle.std.proofs.lemmas.List.{set_past}
 use Rattle.memory.specs.Meaning.{joined_bytes}
 use Rattle.memory.proofs.InTurn.{both_within, even_beyond, even_write, odd_beyond, odd_write}
