@@ -1,7 +1,7 @@
 // The slots, named by their entries.
 ghost use Rattle.std.specs.Prelude.{◌≡◌, ◌<◌, replicate, slice_set};
 ghost use Rattle.monitor.specs.Content.{slot_of};
-ghost use Rattle.monitor.specs.Roll.{apart as ranges_Apart, apart_below};
+ghost use Rattle.monitor.specs.Roll.{apart as ranges_apart, apart_below};
 ghost use Rattle.monitor.specs.Slots.{moved};
 ghost use Rattle.monitor.specs.declared.slot.Slot.TheVariants.{Free};
 
@@ -64,7 +64,7 @@ impl Slots {
 
 // Whether two ranges have no byte in common.
 fn apart(live: Option<(u64, u64)>, range: (u64, u64)) -> bool
-    ensures { result ≡ ranges_Apart live range.0 range.1 }
+    ensures { result ≡ ranges_apart live range.0 range.1 }
 {
     match live {
         None => true,

@@ -1,5 +1,5 @@
 -- an item's line, read back
-use Rattle.std.proofs.Common.{◌≡◌, ℕ, ◌^◌, ◌<◌, ◌≤◌, Bool, true, cond, ◌&&◌, eqb, ltb, List, [], ◌∷◌, ◌++◌, Some, None, Ok, codes, decimal, Option, sym, refl, ap, ◌∙◌, inl, inr, arith, rules}
+use Rattle.std.proofs.Common.{◌≡◌, ℕ, ◌^◌, ◌<◌, ◌≤◌, true, eqb, ltb, List, [], ◌∷◌, ◌++◌, Some, None, codes, decimal, Option, sym, refl, ap, ◌∙◌, inl, inr, arith, rules}
 use Rattle.calculator.specs.Cut.{extend}
 use Rattle.calculator.specs.Options.{and_then}
 use Rattle.calculator.specs.Words.{words}
@@ -8,9 +8,8 @@ use Rattle.std.specs.Option.{option_map}
 use Rattle.std.specs.List.{AllByRecursion as All}
 use Rattle.std.specs.Str.{bytes_eq}
 use Rattle.tape.proofs.Records.{accepted, by_operation, item_passed, under, UnderMost}
-use Rattle.tape.specs.Item.{item, item_questions, largest_of, within}
+use Rattle.tape.specs.Item.{item, item_questions, largest_of}
 use Rattle.tape.specs.Record.{bytes_of, packed}
-use Rattle.tape.specs.declared.item.Item.{Item}
 use Rattle.refusals.specs.Questions.{ruling}
 use Rattle.words.proofs.Numerals.{dark, dark_decimal, dark_hex, number_decimal, number_hex}
 use Rattle.words.specs.Fields.{ended, field_of, number_first, one_of, three_of, two_of}

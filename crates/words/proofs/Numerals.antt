@@ -3,7 +3,7 @@ use Rattle.std.proofs.Common.{◌≡◌, ℕ, zero, suc, ◌+◌, ◌*◌, ◌/�
 use Rattle.calculator.specs.Numbers.{digit_value}
 use Rattle.calculator.specs.Options.{and_then}
 use Rattle.std.proofs.lemmas.List.{append_assoc}
-use Rattle.std.proofs.lemmas.Bool.{and_from, and_parts, and_right, cases_eq, cond_both, cond-false, cond-true, eqb-false, eqb-true, false≢true, lt-ltb, ltb-true, ne_eqb}
+use Rattle.std.proofs.lemmas.Bool.{and_from, and_parts, and_right, cases_eq, cond_both, cond-false, cond-true, eqb-true, false≢true, lt-ltb, ltb-true, ne_eqb}
 use Rattle.std.specs.Char.{digit_char}
 use Rattle.std.specs.Fmt.{digits, digit_glyph, digits_onto}
 use Rattle.words.specs.Hex.{digits_from, front_digit, hex_text, high_text, low_text}

@@ -1,5 +1,5 @@
 -- texts that are refused, and where
-use Rattle.std.proofs.Common.{◌≡◌, ◌^◌, ltb, length, Err, refl}
+use Rattle.std.proofs.Common.{◌^◌, ltb, length, Err, refl}
 use Rattle.std.proofs.lemmas.Bool.{cond-true, lt-ltb}
 use Rattle.tape.specs.Item.{largest_of}
 use Rattle.calculator.specs.Lines.{script_lines}

@@ -1,5 +1,5 @@
 -- where the byte is found, and where it is not
-use Rattle.std.proofs.Common.{◌+◌, ◌-◌, take, Some, ap, ◌∙◌, arith}
+use Rattle.std.proofs.Common.{◌+◌, take, Some, ap, ◌∙◌, arith}
 use Rattle.calculator.proofs.Cuts.{cut_here, cut_later, cut_nowhere}
 use Rattle.words.proofs.cut.cut.Goals as goal
 use Rattle.std.proofs.lemmas.List.{length-drop, take_rest}
