@@ -9,7 +9,7 @@ CFLAGS = -std=c11 -O2 -Wall -Wextra -Werror
 
 demo:
 	@mkdir -p target
-	@rt check monthend pmprun tapetext > target/demo.log 2>&1 || { cat target/demo.log; exit 1; }
+	@bash tools/programs monthend pmprun tapetext
 	@target/bin/monthend
 	@echo
 	@echo "The tape examples/monthend.tape, as text and as pmprun answers it:"

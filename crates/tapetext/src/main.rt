@@ -1,8 +1,8 @@
 // Turns a tape into text, and such text into a tape.
 #![tactic(auto)]
 
-use anyhow::anyhow;
 use std::io::{Read, Write};
+use std::process::ExitCode;
 use std::{env, io};
 use words::{Fault, TAPE_LIMIT, TEXT_LIMIT};
 
@@ -76,13 +76,12 @@ fn run(rt: &HostRuntime) -> anyhow::Result<Option<Fault>> {
     Ok(None)
 }
 
-fn main(rt: HostRuntime) -> anyhow::Result<()> {
-    match run(&rt) {
-        Ok(None) => Ok(()),
-        Ok(Some(fault)) => {
+fn main(rt: HostRuntime) -> anyhow::Result<ExitCode> {
+    match run(&rt)? {
+        None => Ok(ExitCode::SUCCESS),
+        Some(fault) => {
             eprintln!(rt; "tapetext: {fault}")?;
-            Err(anyhow!("the input is refused"))
+            Ok(ExitCode::FAILURE)
         }
-        Err(error) => Err(error),
     }
 }
