@@ -11,7 +11,7 @@ use Rattle.bank.specs.Verdicts.{covers, meets}
 use Rattle.bank.specs.declared.entry.Entry.{Entry}
 use Rattle.bank.specs.declared.extent.Extent.{Extent}
 
-module _ (e : Extent) (s : ℕ × ℕ) (h : s.0 < s.1) where
+module _ (e : Extent) (s : ℕ × ℕ) where
   -- an extent meets and covers spans exactly as the range that it keeps does
   pub meets_kept : (r : Option (ℕ × ℕ)) → keeps r e ≡ true → meets r s ≡ extent_meets e s
   meets_kept None k = grind (arith, nat_tests)

@@ -1,5 +1,5 @@
 -- ranges as a bank keeps them beside its entries, so that no verdict decodes one
-use Rattle.std.specs.Prelude.{ℕ, zero, suc, Bool, true, ◌&&◌, List, length, Some, None, Option, ◌==◌, nat_le, nat_lt, slice_index_or}
+use Rattle.std.specs.Prelude.{ℕ, zero, suc, Bool, true, not, ◌&&◌, List, length, Some, None, Option, ◌==◌, nat_le, nat_lt, slice_index_or}
 use Rattle.bank.specs.Content.{count}
 use Rattle.bank.specs.Ranges.{range_of}
 use Rattle.bank.specs.declared.entry.Entry.{Entry}
@@ -13,12 +13,12 @@ abbrev pub keeps : Option (ℕ × ℕ) → Extent → Bool
 keeps None e = e.past == 0
 keeps (Some r) e = nat_lt r.0 r.1 && (e.first == r.0 && e.past == r.1)
 
--- it holds some byte of a span that is not empty, or every byte of one
+-- it holds some byte of a span, or every byte of one
 abbrev pub extent_meets : Extent → ℕ × ℕ → Bool
-extent_meets e s = nat_lt s.0 e.past && nat_lt e.first s.1
+extent_meets e s = nat_lt s.0 e.past && (nat_lt e.first s.1 && nat_lt s.0 s.1)
 
 abbrev pub extent_covers : Extent → ℕ × ℕ → Bool
-extent_covers e s = nat_le e.first s.0 && nat_le s.1 e.past
+extent_covers e s = not (e.past == 0) && (nat_le e.first s.0 && nat_le s.1 e.past)
 
 -- each of the n lowest extents keeps the range of its entry
 unfoldable pub keeps_below : List Entry → List Extent → ℕ → Bool

@@ -24,18 +24,18 @@ impl Extent {
         }
     }
 
-    // Whether it holds some byte of a span that is not empty. The first test alone passes by an
-    // entry that has no range.
+    // Whether it holds some byte of a span. The first test alone passes by an entry that has no
+    // range; the last is asked only where the others say yes.
     pub(crate) fn meets(self, span: (u64, u64)) -> bool
         ensures { result ≡ extent_meets self span }
     {
-        span.0 < self.past && self.first < span.1
+        span.0 < self.past && self.first < span.1 && span.0 < span.1
     }
 
-    // Whether it holds every byte of one.
+    // Whether there is a range, and it holds every byte of a span.
     pub(crate) fn covers(self, span: (u64, u64)) -> bool
         ensures { result ≡ extent_covers self span }
     {
-        self.first <= span.0 && span.1 <= self.past
+        self.past != 0 && self.first <= span.0 && span.1 <= self.past
     }
 }

@@ -1,5 +1,5 @@
 // Verdicts: the lowest entry whose range holds any byte of an access decides on it.
-ghost use Rattle.std.specs.Prelude.{◌≡◌, ◌<◌, IfSome, IfOk};
+ghost use Rattle.std.specs.Prelude.{◌≡◌, ◌<◌, IfSome};
 ghost use Rattle.bank.specs.Laws.{LowestDecides};
 ghost use Rattle.bank.specs.Ranges.{range_of};
 ghost use Rattle.bank.specs.Registers.{content};
@@ -34,7 +34,6 @@ impl Bank {
 
     // The verdict of the deciding entry, or of none.
     fn judge(&self, privilege: u64, kind: Kind, span: (u64, u64)) -> Verdict
-        requires { span.0 < span.1 }
         ensures { result ≡ judged (content self.now) privilege kind span (deciding (content self.now) span) }
     {
         let Some(i) = self.decider(span) else {
@@ -59,7 +58,6 @@ impl Bank {
 
     // The lowest entry whose range holds any byte of the span.
     fn decider(&self, span: (u64, u64)) -> Option<usize>
-        requires { span.0 < span.1 }
         ensures answer { result ≡ deciding (content self.now) span }
         ensures within { IfSome result (λ i. i < 16) }
     {
@@ -73,7 +71,7 @@ impl Bank {
 
     // Whether the range of entry i holds some byte of the span.
     fn meets(&self, i: usize, span: (u64, u64)) -> bool
-        requires { (i < 16) × (span.0 < span.1) }
+        requires { i < 16 }
         ensures { result ≡ met (range_of (content self.now) i) span }
     {
         self.extents[i].meets(span)
@@ -81,7 +79,7 @@ impl Bank {
 
     // Whether it holds every byte of the span.
     fn covers(&self, i: usize, span: (u64, u64)) -> bool
-        requires { (i < 16) × (span.0 < span.1) }
+        requires { i < 16 }
         ensures { result ≡ covered (range_of (content self.now) i) span }
     {
         self.extents[i].covers(span)
@@ -99,8 +97,7 @@ fn asked(privilege: u64) -> Result<(), Refusal>
 
 // The bytes from an address on: the first, and the one after the last.
 fn span_of(address: u64, size: u64) -> Result<(u64, u64), Refusal>
-    ensures answer { result ≡ span_asked address size }
-    ensures some { IfOk result (λ s. s.0 < s.1) }
+    ensures { result ≡ span_asked address size }
 {
     match size {
         1 | 2 | 4 | 8 if address > END - size => Err(Refusal::Span),

@@ -1,7 +1,7 @@
 // A line as a command.
 ghost use Rattle.std.specs.Prelude.{◌≡◌, ◌≤◌, length, take, IfSome};
 ghost use Rattle.calculator.specs.Laws.{CommandsParse};
-ghost use Rattle.calculator.specs.Parse.{at_most, numbers as Numbers-of, parse_line};
+ghost use Rattle.calculator.specs.Parse.{at_most, numbers as numbers_of, parse_line};
 ghost use Rattle.calculator.specs.Words.{words_left};
 ghost use Rattle.std.specs.Option.{option_map};
 
@@ -32,7 +32,7 @@ impl Command {
 
 // Puts the numbers of words into places, and answers how many they are.
 fn read_numbers(words: Option<&[u8]>, places: &mut [u64]) -> Option<usize>
-    ensures answer { option_map (λ n. take n places.new) result ≡ at_most (length places.old) (Numbers-of (words_left (option_map (λ x. x.now) words.entry))) }
+    ensures answer { option_map (λ n. take n places.new) result ≡ at_most (length places.old) (numbers_of (words_left (option_map (λ x. x.now) words.entry))) }
     ensures within { IfSome result (λ n. n ≤ length places.old) }
 {
     let mut rest = words;

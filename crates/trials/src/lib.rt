@@ -4,6 +4,8 @@
 
 mod answers;
 #[cfg(test)]
+mod checks;
+#[cfg(test)]
 mod machines;
 #[cfg(test)]
 mod memories;

@@ -1,10 +1,10 @@
 // Machines: every refusal of every call, the edges of ranges and of the memory, and the same
 // calls over all three layouts.
 use crate::answers::{DONE, MEMORY, PROTECTION, REFUSED, told};
+use crate::checks::check;
 use machine::Machine;
 use memory::{ByteMemory, Memory, PairMemory, WordMemory};
 use monitor::Call;
-use std::process::Abort;
 use std::test::Fail;
 
 fn create(slot: u64, base: u64, exponent: u64) -> Call {
@@ -35,41 +35,39 @@ fn store(address: u64, size: u64, value: u64) -> Call {
 
 // One call, and the answer that it must get.
 fn expect<M: Memory>(
-    rt: &impl Abort,
     machine: &mut Machine<M>,
     call: Call,
     what: u64,
     number: u64,
-) {
+) -> Result<(), Fail> {
     let (kind, value) = told(machine.call(call));
-    assert!(rt; kind == what && value == number);
+    check(kind == what && value == number)
 }
 
 // Creates over a new memory of 65,536 bytes.
-fn creates<M: Memory>(rt: &impl Abort, machine: &mut Machine<M>) {
-    expect(rt, machine, create(1, 0x4000, 12), REFUSED, 28);
-    expect(rt, machine, create(15, 0x4000, 12), REFUSED, 28);
-    expect(rt, machine, create(2, 0x4000, 12), DONE, 0);
-    expect(rt, machine, create(2, 0x4000, 12), REFUSED, 30);
-    expect(rt, machine, create(3, 0x4800, 11), REFUSED, 31);
-    expect(rt, machine, create(3, 0, 31), REFUSED, 31);
-    expect(rt, machine, create(3, 0x4800, 12), REFUSED, 32);
-    expect(rt, machine, create(3, 0x10000, 12), REFUSED, 33);
-    expect(rt, machine, create(3, 0x4000, 13), REFUSED, 34);
-    expect(rt, machine, create(3, 0x1000, 12), REFUSED, 34);
-    expect(rt, machine, create(3, 0xF000, 12), DONE, 0);
+fn creates<M: Memory>(machine: &mut Machine<M>) -> Result<(), Fail> {
+    expect(machine, create(1, 0x4000, 12), REFUSED, 28)?;
+    expect(machine, create(15, 0x4000, 12), REFUSED, 28)?;
+    expect(machine, create(2, 0x4000, 12), DONE, 0)?;
+    expect(machine, create(2, 0x4000, 12), REFUSED, 30)?;
+    expect(machine, create(3, 0x4800, 11), REFUSED, 31)?;
+    expect(machine, create(3, 0, 31), REFUSED, 31)?;
+    expect(machine, create(3, 0x4800, 12), REFUSED, 32)?;
+    expect(machine, create(3, 0x10000, 12), REFUSED, 33)?;
+    expect(machine, create(3, 0x4000, 13), REFUSED, 34)?;
+    expect(machine, create(3, 0x1000, 12), REFUSED, 34)?;
+    expect(machine, create(3, 0xF000, 12), DONE, 0)
 }
 
 // Turns of the two slots that were created.
-fn turns<M: Memory>(rt: &impl Abort, machine: &mut Machine<M>) {
-    expect(rt, machine, Call::Enter { slot: 16 }, REFUSED, 28);
-    expect(rt, machine, Call::Enter { slot: 4 }, REFUSED, 35);
-    expect(rt, machine, Call::Destroy { slot: 0 }, REFUSED, 28);
-    expect(rt, machine, Call::Destroy { slot: 4 }, REFUSED, 35);
-    expect(rt, machine, Call::Pause, REFUSED, 37);
-    expect(rt, machine, Call::Finish { word: 1 }, REFUSED, 37);
+fn turns<M: Memory>(machine: &mut Machine<M>) -> Result<(), Fail> {
+    expect(machine, Call::Enter { slot: 16 }, REFUSED, 28)?;
+    expect(machine, Call::Enter { slot: 4 }, REFUSED, 35)?;
+    expect(machine, Call::Destroy { slot: 0 }, REFUSED, 28)?;
+    expect(machine, Call::Destroy { slot: 4 }, REFUSED, 35)?;
+    expect(machine, Call::Pause, REFUSED, 37)?;
+    expect(machine, Call::Finish { word: 1 }, REFUSED, 37)?;
     expect(
-        rt,
         machine,
         Call::Register {
             number: 0x3A0,
@@ -77,29 +75,28 @@ fn turns<M: Memory>(rt: &impl Abort, machine: &mut Machine<M>) {
         },
         REFUSED,
         22,
-    );
-    expect(rt, machine, Call::Enter { slot: 2 }, DONE, 0);
-    expect(rt, machine, create(4, 0x8000, 12), REFUSED, 29);
-    expect(rt, machine, Call::Enter { slot: 3 }, REFUSED, 29);
-    expect(rt, machine, Call::Destroy { slot: 3 }, REFUSED, 29);
-    expect(rt, machine, Call::Finish { word: u64::MAX }, DONE, u64::MAX);
-    expect(rt, machine, Call::Enter { slot: 2 }, REFUSED, 36);
-    expect(rt, machine, Call::Enter { slot: 3 }, DONE, 0);
-    expect(rt, machine, Call::Pause, DONE, 0);
-    expect(rt, machine, Call::Enter { slot: 3 }, DONE, 0);
-    expect(rt, machine, Call::Pause, DONE, 0);
+    )?;
+    expect(machine, Call::Enter { slot: 2 }, DONE, 0)?;
+    expect(machine, create(4, 0x8000, 12), REFUSED, 29)?;
+    expect(machine, Call::Enter { slot: 3 }, REFUSED, 29)?;
+    expect(machine, Call::Destroy { slot: 3 }, REFUSED, 29)?;
+    expect(machine, Call::Finish { word: u64::MAX }, DONE, u64::MAX)?;
+    expect(machine, Call::Enter { slot: 2 }, REFUSED, 36)?;
+    expect(machine, Call::Enter { slot: 3 }, DONE, 0)?;
+    expect(machine, Call::Pause, DONE, 0)?;
+    expect(machine, Call::Enter { slot: 3 }, DONE, 0)?;
+    expect(machine, Call::Pause, DONE, 0)
 }
 
 // Accesses of the operating system.
-fn outside<M: Memory>(rt: &impl Abort, machine: &mut Machine<M>) {
-    expect(rt, machine, load(0x3FFC, 4), DONE, 0);
-    expect(rt, machine, load(0x3FFE, 4), PROTECTION, 5);
-    expect(rt, machine, load(0x5000, 4), DONE, 0);
-    expect(rt, machine, load(0x0FFF, 1), PROTECTION, 5);
-    expect(rt, machine, load(0x1000, 8), DONE, 0);
-    expect(rt, machine, store(0x1000, 1, 1), PROTECTION, 7);
+fn outside<M: Memory>(machine: &mut Machine<M>) -> Result<(), Fail> {
+    expect(machine, load(0x3FFC, 4), DONE, 0)?;
+    expect(machine, load(0x3FFE, 4), PROTECTION, 5)?;
+    expect(machine, load(0x5000, 4), DONE, 0)?;
+    expect(machine, load(0x0FFF, 1), PROTECTION, 5)?;
+    expect(machine, load(0x1000, 8), DONE, 0)?;
+    expect(machine, store(0x1000, 1, 1), PROTECTION, 7)?;
     expect(
-        rt,
         machine,
         Call::Access {
             kind: 3,
@@ -109,9 +106,8 @@ fn outside<M: Memory>(rt: &impl Abort, machine: &mut Machine<M>) {
         },
         REFUSED,
         24,
-    );
+    )?;
     expect(
-        rt,
         machine,
         Call::Access {
             kind: 0,
@@ -121,52 +117,50 @@ fn outside<M: Memory>(rt: &impl Abort, machine: &mut Machine<M>) {
         },
         PROTECTION,
         1,
-    );
-    expect(rt, machine, load(0x8000, 3), REFUSED, 25);
-    expect(rt, machine, load(0x3_FFFF_FFFD, 4), REFUSED, 26);
-    expect(rt, machine, load(0x3_FFFF_FFF8, 8), MEMORY, 5);
-    expect(rt, machine, store(0x8000, 4, 0x9_8765_4321), DONE, 0);
-    expect(rt, machine, load(0x8000, 8), DONE, 0x8765_4321);
-    expect(rt, machine, load(0x8001, 2), DONE, 0x6543);
+    )?;
+    expect(machine, load(0x8000, 3), REFUSED, 25)?;
+    expect(machine, load(0x3_FFFF_FFFD, 4), REFUSED, 26)?;
+    expect(machine, load(0x3_FFFF_FFF8, 8), MEMORY, 5)?;
+    expect(machine, store(0x8000, 4, 0x9_8765_4321), DONE, 0)?;
+    expect(machine, load(0x8000, 8), DONE, 0x8765_4321)?;
+    expect(machine, load(0x8001, 2), DONE, 0x6543)
 }
 
 // Accesses of the enclave of slot 3, over the last page.
-fn inside<M: Memory>(rt: &impl Abort, machine: &mut Machine<M>) {
-    expect(rt, machine, Call::Enter { slot: 3 }, DONE, 0);
-    expect(rt, machine, store(0xFFF8, 8, u64::MAX), DONE, 0);
-    expect(rt, machine, load(0xFFFC, 8), PROTECTION, 5);
-    expect(rt, machine, load(0xEFFC, 8), PROTECTION, 5);
-    expect(rt, machine, store(0x8000, 1, 1), PROTECTION, 7);
-    expect(rt, machine, load(0x1FFC, 4), DONE, 0);
-    expect(rt, machine, load(0x1FFE, 4), PROTECTION, 5);
-    expect(rt, machine, load(0xFFFE, 2), DONE, 0xFFFF);
-    expect(rt, machine, Call::Pause, DONE, 0);
-    expect(rt, machine, load(0xFFF8, 8), PROTECTION, 5);
-    expect(rt, machine, Call::Destroy { slot: 3 }, DONE, 0);
-    expect(rt, machine, load(0xFFF8, 8), DONE, 0);
+fn inside<M: Memory>(machine: &mut Machine<M>) -> Result<(), Fail> {
+    expect(machine, Call::Enter { slot: 3 }, DONE, 0)?;
+    expect(machine, store(0xFFF8, 8, u64::MAX), DONE, 0)?;
+    expect(machine, load(0xFFFC, 8), PROTECTION, 5)?;
+    expect(machine, load(0xEFFC, 8), PROTECTION, 5)?;
+    expect(machine, store(0x8000, 1, 1), PROTECTION, 7)?;
+    expect(machine, load(0x1FFC, 4), DONE, 0)?;
+    expect(machine, load(0x1FFE, 4), PROTECTION, 5)?;
+    expect(machine, load(0xFFFE, 2), DONE, 0xFFFF)?;
+    expect(machine, Call::Pause, DONE, 0)?;
+    expect(machine, load(0xFFF8, 8), PROTECTION, 5)?;
+    expect(machine, Call::Destroy { slot: 3 }, DONE, 0)?;
+    expect(machine, load(0xFFF8, 8), DONE, 0)
 }
 
-fn walk<M: Memory>(rt: &impl Abort, machine: &mut Machine<M>) {
-    creates(rt, machine);
-    turns(rt, machine);
-    outside(rt, machine);
-    inside(rt, machine);
+fn walk<M: Memory>(machine: &mut Machine<M>) -> Result<(), Fail> {
+    creates(machine)?;
+    turns(machine)?;
+    outside(machine)?;
+    inside(machine)
 }
 
 #[test]
 fn over_bytes(rt: HostRuntime) -> Result<(), Fail> {
     let memory = ByteMemory::new(vec![in rt.alloc(); 0; 65_536]?);
     let mut machine = Machine::new(memory);
-    walk(&rt, &mut machine);
-    Ok(())
+    walk(&mut machine)
 }
 
 #[test]
 fn over_words(rt: HostRuntime) -> Result<(), Fail> {
     let memory = WordMemory::new(vec![in rt.alloc(); 0; 16_384]?);
     let mut machine = Machine::new(memory);
-    walk(&rt, &mut machine);
-    Ok(())
+    walk(&mut machine)
 }
 
 #[test]
@@ -174,8 +168,7 @@ fn over_a_pair(rt: HostRuntime) -> Result<(), Fail> {
     let first = WordMemory::new(vec![in rt.alloc(); 0; 8_192]?);
     let second = WordMemory::new(vec![in rt.alloc(); 0; 8_192]?);
     let mut machine = Machine::new(PairMemory::new(first, second));
-    walk(&rt, &mut machine);
-    Ok(())
+    walk(&mut machine)
 }
 
 // The end of the memory, to the operating system of a new machine.
@@ -183,10 +176,9 @@ fn over_a_pair(rt: HostRuntime) -> Result<(), Fail> {
 fn ends(rt: HostRuntime) -> Result<(), Fail> {
     let memory = ByteMemory::new(vec![in rt.alloc(); 0; 65_536]?);
     let mut machine = Machine::new(memory);
-    expect(&rt, &mut machine, load(0xFFFC, 8), MEMORY, 5);
-    expect(&rt, &mut machine, store(0xFFFC, 8, 1), MEMORY, 7);
-    expect(&rt, &mut machine, load(0xFFF8, 8), DONE, 0);
-    Ok(())
+    expect(&mut machine, load(0xFFFC, 8), MEMORY, 5)?;
+    expect(&mut machine, store(0xFFFC, 8, 1), MEMORY, 7)?;
+    expect(&mut machine, load(0xFFF8, 8), DONE, 0)
 }
 
 // Lengths that start a machine, and lengths that do not.
@@ -200,20 +192,19 @@ fn lengths(rt: HostRuntime) -> Result<(), Fail> {
         (20_480, true),
     ] {
         let memory = ByteMemory::new(vec![in rt.alloc(); 0; length]?);
-        assert!(rt; Machine::starts(&memory).is_ok() == starts);
+        check(Machine::starts(&memory).is_ok() == starts)?;
         let mut machine = Machine::new(memory);
         if starts {
-            expect(&rt, &mut machine, create(2, 0x2000, 12), DONE, 0);
+            expect(&mut machine, create(2, 0x2000, 12), DONE, 0)?;
         } else {
-            expect(&rt, &mut machine, create(2, 0x2000, 12), REFUSED, 27);
-            expect(&rt, &mut machine, load(0, 3), REFUSED, 27);
+            expect(&mut machine, create(2, 0x2000, 12), REFUSED, 27)?;
+            expect(&mut machine, load(0, 3), REFUSED, 27)?;
             expect(
-                &rt,
                 &mut machine,
                 Call::Register { number: 0, word: 0 },
                 REFUSED,
                 27,
-            );
+            )?;
         }
     }
     Ok(())
@@ -226,8 +217,8 @@ fn lengths_refused(rt: HostRuntime) -> Result<(), Fail> {
     for length in [0, 4_096, 12_288, 16_385, 18_432] {
         let memory = ByteMemory::new(vec![in rt.alloc(); 0; length]?);
         match Machine::starts(&memory) {
-            Ok(()) => assert!(rt; false),
-            Err(refusal) => assert!(rt; refusal.number() == 42),
+            Ok(()) => check(false)?,
+            Err(refusal) => check(refusal.number() == 42)?,
         }
     }
     Ok(())

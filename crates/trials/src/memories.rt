@@ -1,8 +1,8 @@
 // Memories of several lengths in all three layouts: what is written is read back, and past the
 // end there is no byte.
+use crate::checks::check;
 use memory::{ByteMemory, Memory, PairMemory, WordMemory};
 use std::alloc::Global;
-use std::process::Abort;
 use std::test::Fail;
 
 // A byte for each place.
@@ -11,10 +11,10 @@ fn byte_of(place: u64) -> u8 {
 }
 
 // The memory has the length, keeps a byte at every place, and none past the end.
-fn holds<M: Memory>(rt: &impl Abort, memory: &mut M, length: u64) {
-    assert!(rt; memory.len() == length);
+fn holds<M: Memory>(memory: &mut M, length: u64) -> Result<(), Fail> {
+    check(memory.len() == length)?;
     for place in 0..4_200 {
-        assert!(rt; memory.write(place, byte_of(place)).is_some() == (place < length));
+        check(memory.write(place, byte_of(place)).is_some() == (place < length))?;
     }
     for place in 0..4_200 {
         let expected = if place < length {
@@ -26,18 +26,18 @@ fn holds<M: Memory>(rt: &impl Abort, memory: &mut M, length: u64) {
             Some(byte) => u64::from(byte),
             None => 999,
         };
-        assert!(rt; found == expected);
+        check(found == expected)?;
     }
-    assert!(rt; memory.read(u64::MAX).is_none());
-    assert!(rt; memory.write(u64::MAX, 1).is_none());
-    assert!(rt; memory.len() == length);
+    check(memory.read(u64::MAX).is_none())?;
+    check(memory.write(u64::MAX, 1).is_none())?;
+    check(memory.len() == length)
 }
 
 #[test]
 fn bytes(rt: HostRuntime) -> Result<(), Fail> {
     for length in [0, 1, 2, 3, 5, 4_096] {
         let mut memory = ByteMemory::new(vec![in rt.alloc(); 0; length]?);
-        holds(&rt, &mut memory, length as u64);
+        holds(&mut memory, length as u64)?;
     }
     Ok(())
 }
@@ -46,7 +46,7 @@ fn bytes(rt: HostRuntime) -> Result<(), Fail> {
 fn words(rt: HostRuntime) -> Result<(), Fail> {
     for length in [0, 1, 2, 3, 5, 1_024] {
         let mut memory = WordMemory::new(vec![in rt.alloc(); 0; length]?);
-        holds(&rt, &mut memory, 4 * length as u64);
+        holds(&mut memory, 4 * length as u64)?;
     }
     Ok(())
 }
@@ -65,7 +65,7 @@ fn pairs(rt: HostRuntime) -> Result<(), Fail> {
         let even = ByteMemory::new(vec![in rt.alloc(); 0; first]?);
         let odd = ByteMemory::new(vec![in rt.alloc(); 0; second]?);
         let mut memory = PairMemory::new(even, odd);
-        holds(&rt, &mut memory, length);
+        holds(&mut memory, length)?;
     }
     Ok(())
 }
@@ -75,11 +75,10 @@ fn pairs(rt: HostRuntime) -> Result<(), Fail> {
 fn words_inside(rt: HostRuntime) -> Result<(), Fail> {
     let mut memory = WordMemory::new(vec![in rt.alloc(); 0; 2]?);
     for (place, byte) in [(0, 0x11), (1, 0x22), (2, 0x33), (3, 0x44), (7, 0x80)] {
-        assert!(rt; memory.write(place, byte).is_some());
+        check(memory.write(place, byte).is_some())?;
     }
     let words = memory.into_inner();
-    assert!(rt; words.len() == 2);
-    assert!(rt; words[0] == 0x4433_2211);
-    assert!(rt; words[1] == 0x8000_0000);
-    Ok(())
+    check(words.len() == 2)?;
+    check(words[0] == 0x4433_2211)?;
+    check(words[1] == 0x8000_0000)
 }

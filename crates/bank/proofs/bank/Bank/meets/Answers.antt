@@ -5,5 +5,5 @@ use Rattle.bank.proofs.bank.Bank.meets.Goals as goal
 pub returns : goal.returns
 returns c =
     let bank = c.args.self.now in
-    let kept = keeps_at bank.entries.list bank.extents bank.kept c.args.i c.requires.0 in
-    c.meets.ensures ∙ sym (meets_kept _ c.args.span c.requires.1 _ kept)
+    let kept = keeps_at bank.entries.list bank.extents bank.kept c.args.i c.requires in
+    c.meets.ensures ∙ sym (meets_kept _ c.args.span _ kept)
