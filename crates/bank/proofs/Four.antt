@@ -2,6 +2,7 @@
 use Rattle.std.proofs.Common.{◌≡◌, ℕ, zero, suc, ◌+◌, ◌-◌, ◌*◌, ◌/◌, ◌%◌, ◌^◌, ◌<◌, ◌≤◌, true, cond, ◌≢◌, ◌⊎◌, List, length, sym, refl, ap, ◌∙◌, arith, length-set, get_or-set_other, get_or-set_same}
 use Rattle.std.proofs.lemmas.Bool.{cond_both, cond-false, cond-true}
 use Rattle.std.proofs.lemmas.Bool.Decides.{nat_tests}
+use Rattle.bank.proofs.Through.{through_byte}
 use Rattle.bank.specs.Content.{count, entry_of, is_locked, put_byte, put_four, stored_byte, with_byte}
 use Rattle.bank.specs.Laws.{OldLocksDecide, byte_written}
 use Rattle.bank.specs.Registers.{is_bytes_register, written}
@@ -9,17 +10,15 @@ use Rattle.bank.specs.declared.entry.Entry.{Entry}
 
 module _ (l : List Entry) (j b : ℕ) where
   pub there : (k : ℕ) → k ≢ j → entry_of (put_byte l j b) k ≡ entry_of l k
-  there k ne =
-      cond_both (is_locked (entry_of l j).config) l (with_byte l j (stored_byte b)) (λ m. entry_of m k ≡ entry_of l k) (λ _. refl)
-      (λ _. rw get_or-set_other)
+  there k ne = through_byte (λ m. entry_of m k ≡ entry_of l k) l refl j b (λ _. rw get_or-set_other)
 
   pub here : j < length l → entry_of (put_byte l j b) j ≡ byte_written l j b
   here h =
       cond_both (is_locked (entry_of l j).config) l (with_byte l j (stored_byte b)) (λ m. entry_of m j ≡ byte_written l j b)
       (λ t. sym (cond-true _ _ _ t)) (λ u. get_or-set_same l j _ _ h ∙ sym (cond-false _ _ _ u))
 
-  long : length (put_byte l j b) ≡ length l
-  long = cond_both (is_locked (entry_of l j).config) l (with_byte l j (stored_byte b)) (λ m. length m ≡ length l) (λ _. refl) (λ _. simp length-set)
+  pub long : length (put_byte l j b) ≡ length l
+  long = through_byte (λ m. length m ≡ length l) l refl j b (λ _. simp length-set)
 
 -- the byte that is written to an entry, by what the entry was
 same : (l m : List Entry) (k b : ℕ) → entry_of m k ≡ entry_of l k → byte_written m k b ≡ byte_written l k b

@@ -1,11 +1,14 @@
 -- what holds of a bank that was new, whatever was written to it since
-use Rattle.std.proofs.Common.{◌≡◌, ℕ, zero, suc, ◌+◌, ◌-◌, ◌*◌, ◌<◌, ◌≤◌, true, false, cond, not, ◌||◌, eqb, ◌⊎◌, List, [], ◌∷◌, ◌++◌, length, get_or, replicate, sym, refl, ap, ◌∙◌, inl, inr, arith, length-set, get_or-set_other, get_or-set_same}
-use Rattle.std.proofs.lemmas.Bool.{and_parts, both_ways, cases_Bool, cases_eq, cond_both, eq-eqb, eqb-true}
+use Rattle.std.proofs.Common.{◌≡◌, ℕ, ◌+◌, ◌-◌, ◌<◌, ◌≤◌, true, false, not, ◌||◌, eqb, ◌⊎◌, List, [], ◌∷◌, ◌++◌, length, sym, refl, ap, ◌∙◌, inl, inr, arith, length-set, get_or-set_other, get_or-set_same}
+use Rattle.std.proofs.lemmas.List.{get_or-replicate, get_or_past}
+use Rattle.std.proofs.lemmas.Bool.{cases_lt, and_parts, both_ways, cases_Bool, cases_eq, eq-eqb, eqb-true}
 use Rattle.std.proofs.lemmas.Bool.Decides.{nat_tests}
 use Rattle.bank.proofs.Cleans.{clean_put_byte, set_either}
-use Rattle.bank.proofs.Kept.{through_four, through_write, word_byte}
+use Rattle.bank.proofs.Four.{long}
+use Rattle.bank.proofs.Kept.{word_byte}
+use Rattle.bank.proofs.Through.{through_word, through_write}
 use Rattle.bank.specs.Clean.{Clean, is_clean}
-use Rattle.bank.specs.Content.{blank, bounds_locked_above, count, entry_of, is_locked, put_byte, put_word, with_word, zero_entry}
+use Rattle.bank.specs.Content.{blank, bounds_locked_above, count, entry_of, is_locked, put_word, zero_entry}
 use Rattle.bank.specs.Laws.{AlwaysClean, PutsLast, PutsNone, WordsLastWritten, puts_word}
 use Rattle.bank.specs.Registers.{is_bytes_register, is_register, is_word_register, written}
 use Rattle.bank.specs.Runs.{Change, Write, after_changes, after_write, after_writes, resets, writes}
@@ -13,23 +16,21 @@ use Rattle.bank.specs.declared.entry.Entry.{Entry}
 
 clean_put_word : (l : List Entry) (k w : ℕ) → Clean l → Clean (put_word l k w)
 clean_put_word l k w c =
-    cond_both (is_locked (entry_of l k).config) l (cond (bounds_locked_above l k) l (with_word l k w)) Clean (λ _. c)
-    (λ _. cond_both (bounds_locked_above l k) l (with_word l k w) Clean (λ _. c)
-    (λ _. λ i. set_either (λ e. is_clean e.config ≡ true) l k i _ _ (c k) (c i)))
+    through_word Clean l c k w (λ _ _ i. set_either (λ e. is_clean e.config ≡ true) l k i _ _ (c k) (c i))
 
 clean_written : (l : List Entry) (p n w : ℕ) → Clean l → Clean (written l p n w)
 clean_written l p n w c =
-    through_write Clean l p n w c
-    (λ _ _. cond_both (is_bytes_register n) _ _ Clean (λ _. through_four Clean l (4 * (n - 0x3A0)) w (λ m k b s h. clean_put_byte m k b s h) c)
-    (λ _. clean_put_word l (n - 0x3B0) w c))
+    through_write Clean l c p n w (λ m k b s h. clean_put_byte m k b s h) (λ _ _ _. clean_put_word l (n - 0x3B0) w c)
 
-all_alike : {A : Type 0} (n i : ℕ) (d : A) → get_or (replicate n d) i d ≡ d
-all_alike zero i d = refl
-all_alike (suc n) zero d = refl
-all_alike (suc n) (suc i) d = all_alike n i d
+blank_entry : (i : ℕ) → entry_of blank i ≡ zero_entry
+blank_entry i =
+    elim (cases_lt i count) [
+      | inl h ↦ get_or-replicate count i zero_entry zero_entry h
+      | inr h ↦ get_or_past blank i zero_entry h
+    ]
 
 blank_clean : Clean blank
-blank_clean i = rw (all_alike count i zero_entry)
+blank_clean i = rw (blank_entry i)
 
 clean_changes : (l : List Entry) (cs : List Change) → Clean l → Clean (after_changes l cs)
 clean_changes l [] c = c
@@ -40,20 +41,10 @@ pub always_clean : AlwaysClean
 always_clean = record { clean = λ cs. clean_changes blank cs blank_clean }
 
 -- the length stays
-long_byte : (l : List Entry) (k b : ℕ) → length (put_byte l k b) ≡ length l
-long_byte l k b = cond_both (is_locked (entry_of l k).config) l _ (λ m. length m ≡ length l) (λ _. refl) (λ _. simp length-set)
-
-long_word : (l : List Entry) (k w : ℕ) → length (put_word l k w) ≡ length l
-long_word l k w =
-    cond_both (is_locked (entry_of l k).config) l _ (λ m. length m ≡ length l) (λ _. refl)
-    (λ _. cond_both (bounds_locked_above l k) l _ (λ m. length m ≡ length l) (λ _. refl) (λ _. simp length-set))
-
 pub long_written : (l : List Entry) (p n w : ℕ) → length (written l p n w) ≡ length l
 long_written l p n w =
-    through_write (λ m. length m ≡ length l) l p n w refl
-    (λ _ _. cond_both (is_bytes_register n) _ _ (λ m. length m ≡ length l)
-    (λ _. through_four (λ m. length m ≡ length l) l (4 * (n - 0x3A0)) w (λ m k b s e. long_byte m k b ∙ e) refl)
-    (λ _. long_word l (n - 0x3B0) w))
+    through_write (λ m. length m ≡ length l) l refl p n w (λ m k b s e. long m k b ∙ e)
+    (λ _ _ _. through_word (λ m. length m ≡ length l) l refl (n - 0x3B0) w (λ _ _. simp length-set))
 
 -- an accepted write to the register of word i
 pub written_word : (l : List Entry) (i w : ℕ) → i < count → written l 3 (0x3B0 + i) w ≡ put_word l i w
@@ -78,10 +69,8 @@ module _ (l : List Entry) (i : ℕ) (w : Write) where
 
   kept_else : puts_word l i w ≡ false → (entry_of (after_write l w) i).word ≡ (entry_of l i).word
   kept_else h =
-      through_write (λ m. (entry_of m i).word ≡ (entry_of l i).word) l w.privilege w.number w.word refl
-      (λ p r. cond_both (is_bytes_register w.number) _ _ (λ m. (entry_of m i).word ≡ (entry_of l i).word)
-      (λ _. through_four (λ m. (entry_of m i).word ≡ (entry_of l i).word) l (4 * (w.number - 0x3A0)) w.word (λ m k b s e. word_byte m k b i ∙ e) refl)
-      (λ f. kept_word (w.number - 0x3B0) (named w.number r f) p))
+      through_write (λ m. (entry_of m i).word ≡ (entry_of l i).word) l refl w.privilege w.number w.word (λ m k b s e. word_byte m k b i ∙ e)
+      (λ p r f. kept_word (w.number - 0x3B0) (named w.number r f) p)
     where
       named : (n : ℕ) → is_register n ≡ true → is_bytes_register n ≡ false → n ≡ 0x3B0 + (n - 0x3B0)
       named n r f = let t : is_word_register n ≡ true = simp f at r in let u : 0x3B0 ≤ n = grind (arith, nat_tests) in omega arith
@@ -92,11 +81,9 @@ module _ (l : List Entry) (i : ℕ) (w : Write) where
             | inl e ↦ rw (sym e)
                 (let m : eqb w.number (0x3B0 + i) ≡ true = eq-eqb _ _ (omega arith) in
                 let held : not (is_locked (entry_of l i).config || bounds_locked_above l i) ≡ false = simp (p, m) at h in
-                cond_both (is_locked (entry_of l i).config) l _ (λ m. (entry_of m i).word ≡ (entry_of l i).word) (λ _. refl)
-                (λ u. cond_both (bounds_locked_above l i) l _ (λ m. (entry_of m i).word ≡ (entry_of l i).word) (λ _. refl)
-                (λ v. absurd (both_ways true (simp (u, v) at held) refl))))
-            | inr ne ↦ cond_both (is_locked (entry_of l k).config) l _ (λ m. (entry_of m i).word ≡ (entry_of l i).word) (λ _. refl)
-                (λ _. cond_both (bounds_locked_above l k) l _ (λ m. (entry_of m i).word ≡ (entry_of l i).word) (λ _. refl) (λ _. rw get_or-set_other))
+                through_word (λ m. (entry_of m i).word ≡ (entry_of l i).word) l refl i w.word
+                (λ u v. absurd (both_ways true (simp (u, v) at held) refl)))
+            | inr ne ↦ through_word (λ m. (entry_of m i).word ≡ (entry_of l i).word) l refl k w.word (λ _ _. rw get_or-set_other)
           ]
 
 -- splitting one write off a list of them
@@ -131,5 +118,5 @@ words_last_written = record { word = λ ws i s. from_blank ws i s (last_written 
         ⊎ ((w : Write) × PutsLast blank i ws w × ((entry_of (after_writes blank ws) i).word ≡ w.word))
         → (PutsNone blank i ws × ((entry_of (after_writes blank ws) i).word ≡ 0))
         ⊎ ((w : Write) × PutsLast blank i ws w × ((entry_of (after_writes blank ws) i).word ≡ w.word))
-    from_blank ws i s (inl none) = inl (none.0, none.1 ∙ ap (λ (e : Entry). e.word) (all_alike count i zero_entry))
+    from_blank ws i s (inl none) = inl (none.0, none.1 ∙ ap (λ (e : Entry). e.word) (blank_entry i))
     from_blank ws i s (inr some) = inr some

@@ -1,63 +1,33 @@
 -- a locked entry keeps its byte, its word and its range through any writes
-use Rattle.std.proofs.Common.{◌≡◌, ℕ, zero, suc, ◌+◌, ◌-◌, ◌*◌, ◌/◌, ◌%◌, ◌<◌, true, false, cond, eqb, leb, ◌≢◌, List, [], ◌∷◌, ◌++◌, sym, refl, ap, ◌∙◌, inl, inr, arith, get_or-set_other}
+use Rattle.std.proofs.Common.{◌≡◌, ℕ, zero, suc, ◌+◌, ◌-◌, ◌<◌, true, false, eqb, ◌≢◌, List, [], ◌∷◌, ◌++◌, sym, refl, ap, ◌∙◌, inl, inr, arith, get_or-set_other}
 use lib.Bits.{bit_and}
-use Rattle.std.proofs.lemmas.Bool.{both_ways, cases_Bool, cases_eq, cond_both, eqb-true, ne_eqb}
+use Rattle.std.proofs.lemmas.Bool.{both_ways, cases_Bool, cases_eq, ne_eqb}
 use Rattle.bank.proofs.Cleans.{set_either}
-use Rattle.bank.specs.Content.{bounds_locked_above, count, entry_of, is_locked, is_tor, put_byte, put_four, put_word, stored_byte, with_byte, with_word}
+use Rattle.bank.proofs.Through.{through_byte, through_word, through_write}
+use Rattle.bank.specs.Content.{bounds_locked_above, count, entry_of, is_locked, is_tor, put_byte, put_word}
 use Rattle.bank.specs.Laws.{Locked, LocksStand, OnlyResetsRelease}
 use Rattle.bank.specs.Ranges.{range_by, range_of, word_below}
-use Rattle.bank.specs.Registers.{is_bytes_register, is_register, put, written}
+use Rattle.bank.specs.Registers.{written}
 use Rattle.bank.specs.Runs.{Change, Write, after_changes, after_write, after_writes, resets, writes}
 use Rattle.bank.specs.declared.entry.Entry.{Entry}
-
--- a write either changes nothing, or is made at machine privilege to a register
-pub through_write :
-    (P : List Entry → Type 0) (l : List Entry) (p n w : ℕ) → P l → (eqb p 3 ≡ true → is_register n ≡ true → P (put l n w)) → P (written l p n w)
-through_write P l p n w same changed =
-    elim (cases_Bool (eqb p 3)) [
-      | inl t ↦ elim (cases_Bool (is_register n)) [
-        | inl r ↦ rw (eqb-true p 3 t) (simp r (changed t r))
-        | inr f ↦ rw (eqb-true p 3 t) (simp f same)
-      ]
-      | inr g ↦ elim (cases_Bool (leb p 1)) [ inl q ↦ simp (g, q) same | inr q ↦ simp (g, q) same ]
-    ]
 
 module _ (l : List Entry) (i j : ℕ) (h : Locked l i) where
   apart : is_locked (entry_of l j).config ≡ false → i ≢ j
   apart u e = both_ways (is_locked (entry_of l j).config) u (rw (sym e) h)
 
   pub kept_byte : (b : ℕ) → entry_of (put_byte l j b) i ≡ entry_of l i
-  kept_byte b =
-      cond_both (is_locked (entry_of l j).config) l (with_byte l j (stored_byte b)) (λ m. entry_of m i ≡ entry_of l i) (λ _. refl)
-      (λ u. let ne = apart u in rw get_or-set_other)
+  kept_byte b = through_byte (λ m. entry_of m i ≡ entry_of l i) l refl j b (λ u. let ne = apart u in rw get_or-set_other)
 
   kept_word : (w : ℕ) → entry_of (put_word l j w) i ≡ entry_of l i
-  kept_word w =
-      cond_both (is_locked (entry_of l j).config) l (cond (bounds_locked_above l j) l (with_word l j w)) (λ m. entry_of m i ≡ entry_of l i)
-      (λ _. refl)
-      (λ u. cond_both (bounds_locked_above l j) l (with_word l j w) (λ m. entry_of m i ≡ entry_of l i) (λ _. refl)
-      (λ _. let ne = apart u in rw get_or-set_other))
+  kept_word w = through_word (λ m. entry_of m i ≡ entry_of l i) l refl j w (λ u _. let ne = apart u in rw get_or-set_other)
 
 still : (l m : List Entry) (i : ℕ) → entry_of m i ≡ entry_of l i → Locked l i → Locked m i
 still l m i e h = ap (λ (x : Entry). is_locked x.config) e ∙ h
 
--- what one byte keeps, four bytes keep
-pub through_four :
-    (P : List Entry → Type 0) (l : List Entry) (j w : ℕ) → ((m : List Entry) (k b : ℕ) → b < 256 → P m → P (put_byte m k b)) → P l → P (put_four l j w)
-unfolding put_four
-through_four P l j w one h =
-    one _ (j + 3) (w / 16777216 % 256) (omega arith)
-    (one _ (j + 2) (w / 65536 % 256) (omega arith) (one _ (j + 1) (w / 256 % 256) (omega arith) (one l j (w % 256) (omega arith) h)))
-
-kept_four : (l : List Entry) (i j w : ℕ) → Locked l i → entry_of (put_four l j w) i ≡ entry_of l i
-kept_four l i j w h =
-    through_four (λ m. entry_of m i ≡ entry_of l i) l j w (λ m k b s e. kept_byte m i k (still l m i e h) b ∙ e) refl
-
 pub kept_entry : (l : List Entry) (i p n w : ℕ) → Locked l i → entry_of (written l p n w) i ≡ entry_of l i
 kept_entry l i p n w h =
-    through_write (λ m. entry_of m i ≡ entry_of l i) l p n w refl
-    (λ _ _. cond_both (is_bytes_register n) _ _ (λ m. entry_of m i ≡ entry_of l i) (λ _. kept_four l i (4 * (n - 0x3A0)) w h)
-    (λ _. kept_word l i (n - 0x3B0) h w))
+    through_write (λ m. entry_of m i ≡ entry_of l i) l refl p n w (λ m k b s e. kept_byte m i k (still l m i e h) b ∙ e)
+    (λ _ _ _. kept_word l i (n - 0x3B0) h w)
 
 kept_entries : (l : List Entry) (ws : List Write) (i : ℕ) → Locked l i → entry_of (after_writes l ws) i ≡ entry_of l i
 kept_entries l [] i h = refl
@@ -68,7 +38,7 @@ kept_entries l (w ∷ ws) i h =
 -- a write of a byte keeps every word
 pub word_byte : (l : List Entry) (k b j : ℕ) → (entry_of (put_byte l k b) j).word ≡ (entry_of l j).word
 word_byte l k b j =
-    cond_both (is_locked (entry_of l k).config) l (with_byte l k (stored_byte b)) (λ m. (entry_of m j).word ≡ (entry_of l j).word) (λ _. refl)
+    through_byte (λ m. (entry_of m j).word ≡ (entry_of l j).word) l refl k b
     (λ _. elim (cases_eq j k) [
       | inl e ↦ rw e (set_either (λ x. x.word ≡ (entry_of l k).word) l k k _ _ refl refl)
       | inr ne ↦ rw get_or-set_other
@@ -81,17 +51,13 @@ module _ (l : List Entry) (j : ℕ) (small : j + 1 < count) (h : Locked l (j + 1
 
   kept_bottom_word : (k w : ℕ) → (entry_of (put_word l k w) j).word ≡ (entry_of l j).word
   kept_bottom_word k w =
-      cond_both (is_locked (entry_of l k).config) l (cond (bounds_locked_above l k) l (with_word l k w)) (λ m. (entry_of m j).word ≡ (entry_of l j).word)
-      (λ _. refl)
-      (λ _. cond_both (bounds_locked_above l k) l (with_word l k w) (λ m. (entry_of m j).word ≡ (entry_of l j).word) (λ _. refl)
-      (λ u. let ne : j ≢ k = λ e. both_ways (bounds_locked_above l k) u (rw (sym e) bounds) in rw get_or-set_other))
+      through_word (λ m. (entry_of m j).word ≡ (entry_of l j).word) l refl k w
+      (λ _ u. let ne : j ≢ k = λ e. both_ways (bounds_locked_above l k) u (rw (sym e) bounds) in rw get_or-set_other)
 
   kept_bottom : (p n w : ℕ) → (entry_of (written l p n w) j).word ≡ (entry_of l j).word
   kept_bottom p n w =
-      through_write (λ m. (entry_of m j).word ≡ (entry_of l j).word) l p n w refl
-      (λ _ _. cond_both (is_bytes_register n) _ _ (λ m. (entry_of m j).word ≡ (entry_of l j).word)
-      (λ _. through_four (λ m. (entry_of m j).word ≡ (entry_of l j).word) l (4 * (n - 0x3A0)) w (λ m k b s e. word_byte m k b j ∙ e) refl)
-      (λ _. kept_bottom_word (n - 0x3B0) w))
+      through_write (λ m. (entry_of m j).word ≡ (entry_of l j).word) l refl p n w (λ m k b s e. word_byte m k b j ∙ e)
+      (λ _ _ _. kept_bottom_word (n - 0x3B0) w)
 
 -- but for mode TOR the word below does not matter
 no_bottom : (mode low low' a : ℕ) → eqb mode 8 ≡ false → range_by mode low a ≡ range_by mode low' a

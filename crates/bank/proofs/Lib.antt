@@ -1,3 +1,4 @@
+pub mod Through
 pub mod Cleans
 pub mod Ones
 pub mod Words
@@ -5,5 +6,5 @@ pub mod Lowest
 pub mod Kept
 pub mod FromNew
 pub mod Four
-pub mod Extents
+pub mod Keeping
 pub mod Decides

@@ -2,7 +2,8 @@ pub mod Content
 pub mod Clean
 pub mod Registers
 pub mod Ranges
-pub mod Extents
+pub mod Mode
+pub mod Privilege
 pub mod Verdicts
 pub mod Runs
 pub mod Laws

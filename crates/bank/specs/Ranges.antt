@@ -1,5 +1,5 @@
 -- ranges: the first byte, and the byte after the last
-use Rattle.std.specs.Prelude.{ℕ, zero, suc, ◌+◌, ◌-◌, ◌*◌, ◌/◌, ◌%◌, ◌^◌, min, Bool, cond, List, [], ◌∷◌, Some, None, Ok, Err, Option, Result, ◌==◌, bit_and, nat_le, nat_lt}
+use Rattle.std.specs.Prelude.{◌≡◌, ℕ, zero, suc, ◌+◌, ◌-◌, ◌*◌, ◌/◌, ◌%◌, ◌^◌, min, Bool, cond, List, [], ◌∷◌, Some, None, Ok, Err, Option, Result, ◌==◌, bit_and, nat_le, nat_lt, ◌<◌, slice_index_or}
 use Rattle.bank.specs.Content.{between, count, entry_of}
 use Rattle.bank.specs.declared.entry.Entry.{Entry}
 use Rattle.refusals.specs.Questions.{ruled, ruling}
@@ -42,6 +42,10 @@ range_of l i = range_by (bit_and (entry_of l i).config 0x18) (word_below l i) (e
 -- the range of an entry by any number
 abbrev pub range_at : List Entry → ℕ → Option (ℕ × ℕ)
 range_at l i = cond (nat_lt i count) (range_of l i) None
+
+-- the list has the range of each entry
+abbrev pub Keeps : List Entry → List (Option (ℕ × ℕ)) → Type 0
+Keeps l rs = (i : ℕ) → i < count → slice_index_or rs i None ≡ range_of l i
 
 -- the word of a range of 2 ^ k bytes from base on
 abbrev pub word_questions : ℕ → ℕ → List (Bool × Refusal)

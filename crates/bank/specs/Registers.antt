@@ -2,14 +2,9 @@
 use Rattle.std.specs.Prelude.{ℕ, ◌-◌, ◌*◌, Bool, true, cond, List, [], ◌∷◌, Ok, Err, Result, ◌==◌, nat_le}
 use Rattle.bank.specs.Content.{between, entry_of, four_bytes, put_four, put_word}
 use Rattle.bank.specs.declared.entry.Entry.{Entry}
-use Rattle.bank.specs.declared.bank.Bank.{Bank}
 use Rattle.refusals.specs.Questions.{ruled, ruling}
 use Rattle.refusals.specs.declared.Refusal.{Refusal}
 use Rattle.refusals.specs.declared.Refusal.TheVariants.{Privilege, NotMachine, NoRegister}
-
--- what a bank holds: its entries, 0 to 15
-abbrev pub content : Bank → List Entry
-content b = b.entries.list
 
 -- privilege 0 (user), 1 (supervisor) or 3 (machine)
 abbrev pub is_privilege : ℕ → Bool

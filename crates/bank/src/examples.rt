@@ -1,6 +1,5 @@
 // A bank to try things on.
 ghost use Rattle.bank.specs.Examples.{Examples, two_tor};
-ghost use Rattle.bank.specs.Registers.{content};
 ghost use Rattle.std.specs.Prelude.{◌≡◌};
 
 use crate::bank::Bank;
@@ -9,7 +8,7 @@ use crate::laws;
 // Words 0x2000 and 0x3000 in entries 0 and 1, and the bytes of entries 0 to 3: two ranges, one
 // above the other, if the lowest two say TOR. The worked examples stand on it.
 pub fn two_ranges(bytes: u32) -> Bank
-    ensures made { content result ≡ two_tor bytes }
+    ensures made { result ≡ two_tor bytes }
     ensures examples { Examples }
 {
     laws::examples_hold();

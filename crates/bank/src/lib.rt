@@ -7,7 +7,10 @@ mod entries;
 mod entry;
 mod examples;
 mod extent;
+mod index;
 mod laws;
+mod mode;
+mod privilege;
 mod ranges;
 mod registers;
 mod verdict;
@@ -15,5 +18,6 @@ mod verdicts;
 
 pub use bank::Bank;
 pub use examples::two_ranges;
+pub use privilege::Privilege;
 pub use ranges::range_word;
 pub use verdict::{Kind, Verdict};

@@ -1,17 +1,19 @@
 // The registers: 0x3A0 to 0x3A3 hold four configuration bytes each, 0x3B0 to 0x3BF the words.
 ghost use Rattle.bank.specs.Content.{blank};
 ghost use Rattle.bank.specs.Laws.{AlwaysClean, LocksStand, OldLocksDecide, OnlyResetsRelease, WordsLastWritten};
-ghost use Rattle.bank.specs.Registers.{content, privilege_questions, read_answer, write_answer, written};
+ghost use Rattle.bank.specs.Registers.{privilege_questions, read_answer, write_answer, written};
 ghost use Rattle.refusals.specs.Questions.{ruling};
-ghost use Rattle.std.specs.Prelude.{◌≡◌};
+ghost use Rattle.std.specs.Prelude.{◌≡◌, ◌-◌, ◌≤◌};
 
 use crate::bank::Bank;
+use crate::index::{Index, Row};
 use crate::laws;
+use crate::privilege::Privilege;
 use refusals::Refusal;
 
 impl Bank {
     pub fn new() -> Self
-        ensures made { content result ≡ blank }
+        ensures made { result ≡ blank }
         ensures clean { AlwaysClean }
         ensures words { WordsLastWritten }
     {
@@ -22,29 +24,29 @@ impl Bank {
 
     // All entries zero again, locked ones too.
     pub fn reset(&mut self)
-        ensures after { content self.new ≡ blank }
+        ensures after { self.new ≡ blank }
         ensures releases { OnlyResetsRelease }
     {
         laws::only_resets_release();
         *self = Bank::zero();
     }
 
-    // What the register holds.
+    // What the register holds. Privilege and number may be any, and are refused here.
     pub fn read(&self, privilege: u64, number: u64) -> Result<u32, Refusal>
-        ensures { result ≡ read_answer (content self.now) privilege number }
+        ensures { result ≡ read_answer self.now privilege number }
     {
         asked(privilege)?;
         match number {
-            0x3A0..=0x3A3 => Ok(self.entries.four(4 * (number - 0x3A0) as usize)),
-            0x3B0..=0x3BF => Ok(self.entries.word((number - 0x3B0) as usize)),
+            0x3A0..=0x3A3 => Ok(self.entries.four(row(number))),
+            0x3B0..=0x3BF => Ok(self.entries.word(entry(number))),
             _ => Err(Refusal::NoRegister),
         }
     }
 
     // Writes the register as far as the locks let it, and answers what it then holds.
     pub fn write(&mut self, privilege: u64, number: u64, word: u32) -> Result<u32, Refusal>
-        ensures answer { result ≡ write_answer (content self.old) privilege number word }
-        ensures after { content self.new ≡ written (content self.old) privilege number word }
+        ensures answer { result ≡ write_answer self.old privilege number word }
+        ensures after { self.new ≡ written self.old privilege number word }
         ensures locks { LocksStand }
         ensures four { OldLocksDecide }
     {
@@ -53,20 +55,18 @@ impl Bank {
         asked(privilege)?;
         match number {
             0x3A0..=0x3A3 => {
-                let i = 4 * (number - 0x3A0) as usize;
-                self.put_four(i, word);
-                Ok(self.entries.four(i))
+                self.put_four(row(number), word);
+                Ok(self.entries.four(row(number)))
             }
-            0x3B0..=0x3BF if self.entries.locked((number - 0x3B0) as usize) => {
-                Ok(self.entries.word((number - 0x3B0) as usize))
+            0x3B0..=0x3BF if self.entries.locked(entry(number)) => {
+                Ok(self.entries.word(entry(number)))
             }
-            0x3B0..=0x3BF if self.entries.bounds_locked_above((number - 0x3B0) as usize) => {
-                Ok(self.entries.word((number - 0x3B0) as usize))
+            0x3B0..=0x3BF if self.entries.bounds_locked_above(entry(number)) => {
+                Ok(self.entries.word(entry(number)))
             }
             0x3B0..=0x3BF => {
-                let i = (number - 0x3B0) as usize;
-                self.put_word(i, word);
-                Ok(self.entries.word(i))
+                self.put_word(entry(number), word);
+                Ok(self.entries.word(entry(number)))
             }
             _ => Err(Refusal::NoRegister),
         }
@@ -77,9 +77,29 @@ impl Bank {
 fn asked(privilege: u64) -> Result<(), Refusal>
     ensures { result ≡ ruling (privilege_questions privilege) }
 {
-    match privilege {
-        3 => Ok(()),
-        0 | 1 => Err(Refusal::NotMachine),
-        _ => Err(Refusal::Privilege),
+    if Privilege::try_from(privilege)?.is_machine() {
+        Ok(())
+    } else {
+        Err(Refusal::NotMachine)
+    }
+}
+
+// Which register of four bytes a number names, and which word.
+
+fn row(number: u64) -> Row
+    requires { (0x3A0 ≤ number) × (number ≤ 0x3A3) }
+    ensures { result ≡ number - 0x3A0 }
+{
+    Row {
+        n: (number - 0x3A0) as usize,
+    }
+}
+
+fn entry(number: u64) -> Index
+    requires { (0x3B0 ≤ number) × (number ≤ 0x3BF) }
+    ensures { result ≡ number - 0x3B0 }
+{
+    Index {
+        n: (number - 0x3B0) as usize,
     }
 }

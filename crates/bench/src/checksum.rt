@@ -1,5 +1,5 @@
 // A checksum of answers: it depends on each of them and on their order.
-use monitor::{Answer, Layer};
+use monitor::{Answer, Denial, Layer};
 
 const START: u64 = 0xCBF2_9CE4_8422_2325;
 
@@ -26,10 +26,10 @@ impl Checksum {
     // Adds a number for what kind of answer it is, and the number that it holds.
     pub(crate) fn answer(&mut self, answer: Answer) {
         let (kind, number) = match answer {
-            Answer::Done(value) => (0, value),
-            Answer::Refused(refusal) => (1, u64::from(refusal.number())),
-            Answer::Fault(Layer::Protection, cause) => (2, u64::from(cause)),
-            Answer::Fault(Layer::Memory, cause) => (3, u64::from(cause)),
+            Ok(value) => (0, value),
+            Err(Denial::Refused(refusal)) => (1, u64::from(refusal.number())),
+            Err(Denial::Fault(Layer::Protection, cause)) => (2, u64::from(cause)),
+            Err(Denial::Fault(Layer::Memory, cause)) => (3, u64::from(cause)),
         };
         self.add(kind);
         self.add(number);

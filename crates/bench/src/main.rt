@@ -27,7 +27,11 @@ fn main(rt: HostRuntime) -> anyhow::Result<()> {
 }
 
 fn run(rt: &HostRuntime) -> anyhow::Result<()> {
-    match order::asked(rt)? {
+    let Some(order) = order::asked(rt)? else {
+        eprintln!(rt; "{HELP}")?;
+        return Err(anyhow!("no such workload or number of rounds"));
+    };
+    match order {
         Order::Short => {
             for (workload, rounds) in ALL {
                 show(rt, workload, rounds)?;
@@ -35,10 +39,6 @@ fn run(rt: &HostRuntime) -> anyhow::Result<()> {
             Ok(())
         }
         Order::One(workload, rounds) => show(rt, workload, rounds),
-        Order::Unknown => {
-            eprintln!(rt; "{HELP}")?;
-            Err(anyhow!("no such workload or number of rounds"))
-        }
     }
 }
 

@@ -8,27 +8,18 @@ pub(crate) enum Order {
     Short,
     // a workload and its rounds
     One(Workload, u64),
-    // anything else
-    Unknown,
 }
 
-pub(crate) fn asked(rt: &HostRuntime) -> io::Result<Order> {
+// The order that the words are, if they are one.
+pub(crate) fn asked(rt: &HostRuntime) -> io::Result<Option<Order>> {
     let mut words = env::args(rt)?.skip(1);
-    let Some(name) = words.next() else {
-        return Ok(Order::Short);
-    };
-    let Some(rounds) = words.next() else {
-        return Ok(Order::Unknown);
-    };
-    if words.next().is_some() {
-        return Ok(Order::Unknown);
-    }
-    Ok(one(name.as_str(), rounds.as_str()))
+    Ok(match (words.next(), words.next(), words.next()) {
+        (None, _, _) => Some(Order::Short),
+        (Some(name), Some(rounds), None) => one(name.as_str(), rounds.as_str()),
+        _ => None,
+    })
 }
 
-fn one(name: &str, rounds: &str) -> Order {
-    match (Workload::named(name), rounds.parse::<u64>()) {
-        (Some(workload), Ok(rounds)) => Order::One(workload, rounds),
-        _ => Order::Unknown,
-    }
+fn one(name: &str, rounds: &str) -> Option<Order> {
+    Some(Order::One(Workload::named(name)?, rounds.parse().ok()?))
 }

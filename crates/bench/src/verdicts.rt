@@ -49,8 +49,5 @@ fn number(answer: Result<Verdict, Refusal>) -> u64 {
 
 // The deciding entry counted from 1, or 0 where none decides.
 fn decider(entry: Option<usize>) -> u64 {
-    match entry {
-        None => 0,
-        Some(i) => (i as u64).wrapping_add(1),
-    }
+    entry.map_or(0, |i| (i as u64).wrapping_add(1))
 }

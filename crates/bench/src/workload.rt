@@ -32,12 +32,9 @@ pub(crate) const ALL: [(Workload, u64); 10] = [
 
 impl Workload {
     pub(crate) fn named(name: &str) -> Option<Workload> {
-        for (workload, _) in ALL {
-            if workload.name() == name {
-                return Some(workload);
-            }
-        }
-        None
+        ALL.into_iter()
+            .map(|(workload, _)| workload)
+            .find(|workload| workload.name() == name)
     }
 
     pub(crate) fn name(self) -> &'static str {

@@ -5,9 +5,9 @@ use Rattle.bank.specs.declared.entry.Entry.{Entry}
 use Rattle.bank.specs.declared.verdict.Verdict.{Verdict}
 use Rattle.bank.specs.declared.verdict.Verdict.TheVariants.{Allowed, Fault}
 use Rattle.calculator.proofs.Standing.{within}
-use Rattle.calculator.specs.Hex.{hex_text}
+use Rattle.tokens.specs.Digits.{hex_text}
 use Rattle.calculator.specs.Laws.{asking, line_ends, LinesAnswered}
-use Rattle.calculator.specs.Lines.{is_silent, script_lines}
+use Rattle.tokens.specs.Lines.{is_silent, script_lines}
 use Rattle.calculator.specs.Parse.{parse_line}
 use Rattle.calculator.specs.Reply.{reply_text}
 use Rattle.calculator.specs.Run.{answer_of}

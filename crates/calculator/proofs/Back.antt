@@ -1,47 +1,15 @@
 -- the digits of a number, read back
-use Rattle.std.proofs.Common.{◌≡◌, ℕ, zero, suc, ◌+◌, ◌*◌, ◌/◌, ◌%◌, ◌^◌, ◌<◌, ◌≤◌, Bool, true, false, cond, not, ◌&&◌, eqb, leb, List, ◌∷◌, length, drop, Some, None, Option, refl, ap, ◌∙◌, inl, inr, mod-lt, mod-eq_of_lt, mul_assoc, add-mul, mul_left_comm, arith}
+use Rattle.std.proofs.Common.{◌≡◌, ℕ, zero, suc, ◌+◌, ◌*◌, ◌/◌, ◌%◌, ◌^◌, ◌<◌, ◌≤◌, false, cond, eqb, leb, List, ◌∷◌, length, drop, Some, None, Option, refl, ap, ◌∙◌, mod-lt, mod-eq_of_lt, mul_assoc, add-mul, mul_left_comm, arith}
 use Rattle.bank.specs.Content.{between}
-use Rattle.calculator.specs.Hex.{hex_text}
+use Rattle.tokens.specs.Digits.{hex_text}
 use Rattle.calculator.specs.Laws.{NumbersReadBack}
-use Rattle.calculator.specs.Numbers.{bare, digit_value, digits_value, number_value}
-use Rattle.calculator.specs.Options.{and_then}
-use Rattle.std.proofs.lemmas.Bool.{and_parts, and_right, cases_eq, cond-false, cond-true, eqb-true, false≢true, le-leb, not-true}
+use Rattle.calculator.specs.Numbers.{bare, digits_value, number_value}
+use Rattle.tokens.specs.Options.{and_then}
+use Rattle.std.proofs.lemmas.Bool.{and_right, cond-false, cond-true, le-leb}
 use Rattle.std.specs.Char.{digit_char}
 use lib.Arith.{mod-mul}
+use Rattle.tokens.proofs.Letters.{digit_back, digit_not_x}
 use native.Mathlib.Nat.{mod-one, pow-succ'}
-
--- a test passes at each number below n
-abbrev all_below : (ℕ → Bool) → ℕ → Bool
-all_below f zero = true
-all_below f (suc n) = f n && all_below f n
-
-below : (f : ℕ → Bool) (n k : ℕ) → all_below f n ≡ true → k < n → f k ≡ true
-below f zero k t h = absurd (omega arith)
-below f (suc n) k t h =
-    elim (cases_eq k n) [
-      | inl e ↦ rw e (and_parts (f n) (all_below f n) t).0
-      | inr ne ↦ below f n k (and_parts (f n) (all_below f n) t).1 (omega arith)
-    ]
-
--- the character of a digit: its value, and what it is not
-is_some : Option ℕ → ℕ → Bool
-is_some None d = false
-is_some (Some e) d = eqb e d
-
-some_from : (o : Option ℕ) (d : ℕ) → is_some o d ≡ true → o ≡ Some d
-unfolding is_some
-some_from None d t = absurd (false≢true t)
-some_from (Some e) d t = ap Some (eqb-true e d t)
-
-digit_back : (d : ℕ) → d < 16 → digit_value (digit_char d) ≡ Some d
-unfolding is_some
-digit_back d h = some_from (digit_value (digit_char d)) d (below (λ x. is_some (digit_value (digit_char x)) x) 16 d refl h)
-
-pub digit_not_x : (d : ℕ) → d < 16 → eqb (digit_char d) 120 ≡ false
-digit_not_x d h = not-true (eqb (digit_char d) 120) (below (λ x. not (eqb (digit_char x) 120)) 16 d refl h)
-
-pub digit_not_space : (d : ℕ) → d < 16 → eqb (digit_char d) 32 ≡ false
-digit_not_space d h = not-true (eqb (digit_char d) 32) (below (λ x. not (eqb (digit_char x) 32)) 16 d refl h)
 
 digits_back : (k m n : ℕ) → digits_value m (hex_text k n) ≡ Some (m * 16 ^ k + n % 16 ^ k)
 digits_back zero m n = ap Some (omega (arith, mod-one n))

@@ -1,8 +1,7 @@
 pub mod Answered
 pub mod Back
-pub mod Cuts
-pub mod Digits
 pub mod Parsing
+pub mod Ranges
 pub mod Reading
 pub mod Scripts
 pub mod Spelling

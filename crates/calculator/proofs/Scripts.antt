@@ -1,33 +1,16 @@
 -- a script line by line
-use Rattle.std.proofs.Common.{◌≡◌, ℕ, ◌+◌, ◌<◌, List, [], ◌∷◌, ◌++◌, map, length, Some, None, Option, unwrap_or, sym, refl, ap, ◌∙◌, arith, Bor}
+use Rattle.std.proofs.Common.{◌≡◌, ℕ, ◌+◌, List, ◌∷◌, ◌++◌, sym, ap, ◌∙◌}
 use Rattle.bank.specs.declared.entry.Entry.{Entry}
-use Rattle.calculator.proofs.Cuts.{lines_cut}
-use Rattle.calculator.specs.Cut.{after, before}
-use Rattle.calculator.specs.Lines.{lines, lines_left, script_lines, without_return}
 use Rattle.calculator.specs.Script.{content_line, line_text, lines_text}
 use Rattle.std.proofs.lemmas.List.{append_assoc}
-use Rattle.std.specs.Option.{option_map}
-
-rest_lines : (r : Option (Bor (List ℕ))) (d : Bor (List ℕ)) → d.now ≡ [] → lines_left (option_map (λ x. x.now) r) ≡ lines (unwrap_or r d).now
-rest_lines None d empty = sym (ap lines empty)
-rest_lines (Some x) d empty = refl
-
-pub first_line : (s line : List ℕ) (r : Option (Bor (List ℕ))) (d rest : Bor (List ℕ)) → 0 < length s → line ≡ without_return (before 10 s)
-    → option_map (λ x. x.now) r ≡ after 10 s → d.now ≡ [] → rest ≡ unwrap_or r d → script_lines s ≡ line ∷ script_lines rest.now
-first_line [] line r d rest some is left empty tail = absurd (omega arith)
-first_line (x ∷ xs) line r d rest some is left empty tail =
-    ap (map without_return) (lines_cut x xs)
-    ∙ ap (λ (l : List ℕ). l ∷ map without_return (lines_left (after 10 (x ∷ xs)))) (sym is)
-    ∙ ap (λ (o : Option (List ℕ)). line ∷ map without_return (lines_left o)) (sym left)
-    ∙ ap (λ (ls : List (List ℕ)). line ∷ map without_return ls) (rest_lines r d empty ∙ ap (λ (q : Bor (List ℕ)). lines q.now) (sym tail))
 
 -- one line more
-pub line_more : (whole text last : List ℕ) (l m : List Entry) (i : ℕ) (s line rest : List ℕ)
-    → text ++ lines_text l i (script_lines s) ≡ whole → script_lines s ≡ line ∷ script_lines rest → last ≡ text ++ line_text l i line → m ≡ content_line l line
-    → last ++ lines_text m (i + 1) (script_lines rest) ≡ whole
-line_more whole text last l m i s line rest inv cut added kept =
-    ap (λ (t : List ℕ). t ++ lines_text m (i + 1) (script_lines rest)) added
-    ∙ ap (λ (k : List Entry). (text ++ line_text l i line) ++ lines_text k (i + 1) (script_lines rest)) kept
-    ∙ append_assoc text (line_text l i line) (lines_text (content_line l line) (i + 1) (script_lines rest))
+pub line_more : (whole text last : List ℕ) (l m : List Entry) (i : ℕ) (ss : List (List ℕ)) (line : List ℕ) (rest : List (List ℕ))
+    → text ++ lines_text l i ss ≡ whole → ss ≡ line ∷ rest → last ≡ text ++ line_text l i line → m ≡ content_line l line
+    → last ++ lines_text m (i + 1) rest ≡ whole
+line_more whole text last l m i ss line rest inv cut added kept =
+    ap (λ (t : List ℕ). t ++ lines_text m (i + 1) rest) added
+    ∙ ap (λ (k : List Entry). (text ++ line_text l i line) ++ lines_text k (i + 1) rest) kept
+    ∙ append_assoc text (line_text l i line) (lines_text (content_line l line) (i + 1) rest)
     ∙ ap (λ (ls : List (List ℕ)). text ++ lines_text l i ls) (sym cut)
     ∙ inv

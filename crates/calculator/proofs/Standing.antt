@@ -2,9 +2,9 @@
 use Rattle.std.proofs.Common.{◌≡◌, ℕ, ◌+◌, ◌^◌, ◌≤◌, Bool, true, false, eqb, ltb, List, [], ◌∷◌, ◌++◌, map, length, codes, sym, refl, ap, ◌∙◌, arith}
 use Rattle.bank.specs.Content.{blank}
 use Rattle.bank.specs.declared.entry.Entry.{Entry}
-use Rattle.calculator.specs.Cut.{extend}
+use Rattle.tokens.specs.Cut.{extend}
 use Rattle.calculator.specs.Laws.{AnswersStand, CommentsPass}
-use Rattle.calculator.specs.Lines.{is_silent, lines, script_lines, without_return}
+use Rattle.tokens.specs.Lines.{is_silent, lines, script_lines, without_return}
 use Rattle.calculator.specs.Parse.{parse_line}
 use Rattle.calculator.specs.Reply.{content_then}
 use Rattle.calculator.specs.Run.{answer_of}

@@ -1,8 +1,8 @@
 -- what holds of every number, command and script
 use Rattle.std.specs.Prelude.{◌≡◌, ℕ, ◌+◌, ◌^◌, ◌<◌, ◌≤◌, true, cond, List, [], ◌∷◌, ◌++◌, length, Some, codes, ◌==◌}
 use Rattle.bank.specs.declared.entry.Entry.{Entry}
-use Rattle.calculator.specs.Hex.{hex_text}
-use Rattle.calculator.specs.Lines.{is_silent, script_lines}
+use Rattle.tokens.specs.Digits.{hex_text}
+use Rattle.tokens.specs.Lines.{is_silent, script_lines}
 use Rattle.calculator.specs.Numbers.{number_value}
 use Rattle.calculator.specs.Parse.{parse_line}
 use Rattle.calculator.specs.Run.{answer_of, content_after}

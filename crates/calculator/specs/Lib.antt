@@ -1,13 +1,8 @@
-pub mod Cut
-pub mod Hex
 pub mod Laws
-pub mod Lines
 pub mod Numbers
-pub mod Options
 pub mod Parse
 pub mod Reply
 pub mod Run
 pub mod Script
 pub mod Text
 pub mod Verb
-pub mod Words

@@ -1,13 +1,8 @@
 -- numbers as a script writes them: hexadecimal digits, after 0x or not
-use Rattle.std.specs.Prelude.{ℕ, ◌+◌, ◌-◌, ◌*◌, cond, ◌&&◌, List, [], ◌∷◌, length, drop, Some, None, Option, ◌==◌, slice_index}
+use Rattle.std.specs.Prelude.{ℕ, ◌+◌, ◌*◌, cond, ◌&&◌, List, [], ◌∷◌, length, drop, Some, None, Option, ◌==◌, slice_index}
 use Rattle.bank.specs.Content.{between}
-use Rattle.calculator.specs.Options.{and_then}
-
--- the value of a digit: 0 to 9, a to f and A to F
-abbrev pub digit_value : ℕ → Option ℕ
-digit_value c =
-    cond (between 48 c 57) (Some (c - 48))
-    (cond (between 97 c 102) (Some (c - 97 + 10)) (cond (between 65 c 70) (Some (c - 65 + 10)) None))
+use Rattle.tokens.specs.Digits.{digit_value}
+use Rattle.tokens.specs.Options.{and_then}
 
 -- the number that digits write, after those that write n
 abbrev pub digits_value : ℕ → List ℕ → Option ℕ

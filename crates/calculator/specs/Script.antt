@@ -2,7 +2,7 @@
 use Rattle.std.specs.Prelude.{ℕ, ◌+◌, ◌^◌, cond, List, [], ◌∷◌, ◌++◌, length, codes, decimal, Option, nat_lt}
 use Rattle.bank.specs.Content.{blank}
 use Rattle.bank.specs.declared.entry.Entry.{Entry}
-use Rattle.calculator.specs.Lines.{is_silent, script_lines}
+use Rattle.tokens.specs.Lines.{is_silent, script_lines}
 use Rattle.calculator.specs.Parse.{parse_line}
 use Rattle.calculator.specs.Reply.{content_then, reply_text}
 use Rattle.calculator.specs.Run.{answer_of}

@@ -2,7 +2,7 @@
 use Rattle.std.specs.Prelude.{ℕ, List, ◌∷◌, ◌++◌, Some, None, Ok, Err, codes, decimal, Option, Result}
 use Rattle.bank.specs.declared.verdict.Verdict.{Verdict}
 use Rattle.bank.specs.declared.verdict.Verdict.TheVariants.{Allowed, Fault}
-use Rattle.calculator.specs.Hex.{hex_text}
+use Rattle.tokens.specs.Digits.{hex_text}
 use Rattle.calculator.specs.declared.answer.Answer.{Answer}
 use Rattle.calculator.specs.declared.answer.Answer.TheVariants.{Word, Verdict as VerdictIs, Range, Done}
 use Rattle.refusals.specs.Numbers.{refusal_number}

@@ -2,11 +2,11 @@
 use bank::Verdict;
 use refusals::Refusal;
 
-#[derive(Clone, Copy)]
+#[derive(Clone, Copy, Debug, PartialEq, Eq)]
 pub enum Answer {
     Word(Result<u32, Refusal>),
     Verdict(Result<Verdict, Refusal>),
-    // the first byte of a range and the one after its last, or no byte
+    // the bytes of a range, or none
     Range(Option<(u64, u64)>),
     Done,
 }

@@ -1,15 +1,32 @@
 // What a line of a script asks for.
-#[derive(Clone, Copy)]
+#[derive(Clone, Copy, PartialEq, Eq, Debug)]
 pub enum Command {
-    // read a register: privilege and number
-    Read(u64, u64),
-    // write a register: privilege, number and word
-    Write(u64, u64, u32),
-    // the verdict on an access: privilege, kind, address and size
-    Check(u64, u64, u64, u64),
-    // the range of an entry: its index
-    Range(u64),
+    // read a register
+    Read {
+        privilege: u64,
+        number: u64,
+    },
+    // write a register
+    Write {
+        privilege: u64,
+        number: u64,
+        word: u32,
+    },
+    // the verdict on an access
+    Check {
+        privilege: u64,
+        kind: u64,
+        address: u64,
+        size: u64,
+    },
+    // the range of an entry
+    Range {
+        index: u64,
+    },
     // the word of a range: its base and the exponent of its size
-    Word(u64, u64),
+    Word {
+        base: u64,
+        exponent: u64,
+    },
     Reset,
 }

@@ -3,10 +3,7 @@
 
 mod answer;
 mod command;
-mod cut;
-mod hex;
 mod laws;
-mod lines;
 mod numbers;
 mod parse;
 mod reply;
@@ -14,7 +11,6 @@ mod run;
 mod script;
 mod text;
 mod verb;
-mod words;
 
 pub use answer::Answer;
 pub use command::Command;

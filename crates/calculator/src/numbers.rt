@@ -1,9 +1,10 @@
 // Numbers as a script writes them: hexadecimal digits, after 0x or not.
-ghost use Rattle.std.specs.Prelude.{◌≡◌, ◌<◌, ◌≤◌, length, IfSome};
+ghost use Rattle.std.specs.Prelude.{◌≡◌, ◌≤◌, length};
 ghost use Rattle.calculator.specs.Laws.{NumbersReadBack};
-ghost use Rattle.calculator.specs.Numbers.{bare, digit_value, digits_value, number_value};
+ghost use Rattle.calculator.specs.Numbers.{bare, digits_value, number_value};
 
 use crate::laws;
+use tokens::digit;
 
 // The most digits that a number has.
 const DIGITS: usize = 16;
@@ -31,7 +32,8 @@ fn unprefixed(word: &[u8]) -> &[u8]
     }
 }
 
-// The number that digits write.
+// The number that digits write. Not the reading of `words`, which takes any base and checks each
+// step: sixteen digits are a number of 64 bits.
 fn read(digits: &[u8]) -> Option<u64>
     requires { length digits.now ≤ 16 }
     ensures { result ≡ digits_value 0 digits.now }
@@ -41,17 +43,4 @@ fn read(digits: &[u8]) -> Option<u64>
         n = 16 * n + digit(*byte)?;
     }
     Some(n)
-}
-
-// The value of a digit, in upper or lower case.
-fn digit(byte: u8) -> Option<u64>
-    ensures value { result ≡ digit_value byte }
-    ensures below { IfSome result (λ d. d < 16) }
-{
-    match byte {
-        b'0'..=b'9' => Some((byte - b'0') as u64),
-        b'a'..=b'f' => Some((byte - b'a' + 10) as u64),
-        b'A'..=b'F' => Some((byte - b'A' + 10) as u64),
-        _ => None,
-    }
 }

@@ -1,5 +1,4 @@
 // What a line is answered.
-ghost use Rattle.bank.specs.Registers.{content};
 ghost use Rattle.calculator.specs.Parse.{parse_line};
 ghost use Rattle.calculator.specs.Reply.{content_then, reply_text};
 ghost use Rattle.calculator.specs.Run.{answer_of};
@@ -18,8 +17,8 @@ pub(crate) struct Reply(Option<Answer>);
 impl Reply {
     // Does what the line asks for.
     pub(crate) fn to(line: &[u8], bank: &mut Bank) -> Reply
-        ensures answer { result.0 ≡ option_map (answer_of (content bank.old)) (parse_line line.now) }
-        ensures after { content bank.new ≡ content_then (content bank.old) (parse_line line.now) }
+        ensures answer { result.0 ≡ option_map (answer_of bank.old) (parse_line line.now) }
+        ensures after { bank.new ≡ content_then bank.old (parse_line line.now) }
     {
         match Command::parse(line) {
             Some(command) => Reply(Some(command.run(bank))),

@@ -1,16 +1,15 @@
 // A script of commands, one to a line, and the answers to it.
 ghost use Rattle.std.specs.Prelude.{◌≡◌, ◌^◌, ◌≤◌, ◌++◌, length, IfOk, string_bytes, OnOk};
 ghost use Rattle.bank.specs.Content.{blank};
-ghost use Rattle.bank.specs.Registers.{content};
 ghost use Rattle.calculator.specs.Laws.{AnswersStand, CommentsPass, LinesAnswered};
-ghost use Rattle.calculator.specs.Lines.{script_lines};
+ghost use Rattle.tokens.specs.Lines.{script_lines};
 ghost use Rattle.calculator.specs.Script.{content_line, line_text, lines_text, reply_line, script_text};
 
 use crate::laws;
-use crate::lines::{first_line, silent};
 use crate::reply::Reply;
 use bank::Bank;
 use std::alloc::{AllocError, Global};
+use tokens::{Lines, silent};
 
 // The most bytes that a script has.
 pub const LIMIT: usize = 1_048_576;
@@ -38,12 +37,8 @@ fn answer_lines(heap: Global, script: &[u8]) -> Result<String, AllocError>
 {
     let mut bank = Bank::new();
     let mut text = String::new(heap);
-    let mut rest = script;
-    let mut index = 0;
-    while let Some((line, more)) = first_line(rest) {
+    for (index, line) in Lines::of(script).enumerate() {
         answer_line(&mut text, &mut bank, index, line)?;
-        index += 1;
-        rest = more;
     }
     Ok(text)
 }
@@ -55,8 +50,8 @@ fn answer_line(
     index: usize,
     line: &[u8],
 ) -> Result<(), AllocError>
-    ensures text { OnOk result (string_bytes text.new ≡ string_bytes text.old ++ line_text (content bank.old) index line.now) }
-    ensures after { content bank.new ≡ content_line (content bank.old) line.now }
+    ensures text { OnOk result (string_bytes text.new ≡ string_bytes text.old ++ line_text bank.old index line.now) }
+    ensures after { bank.new ≡ content_line bank.old line.now }
 {
     if silent(line) {
         return Ok(());
@@ -68,8 +63,5 @@ fn answer_line(
 fn push_reply(text: &mut String, index: usize, reply: Reply) -> Result<(), AllocError>
     ensures { OnOk result (string_bytes text.new ≡ string_bytes text.old ++ reply_line index reply.0) }
 {
-    match write!(text, "{index} {reply}\n") {
-        Ok(()) => Ok(()),
-        Err(_) => Err(AllocError),
-    }
+    write!(text, "{index} {reply}\n").map_err(|_| AllocError)
 }

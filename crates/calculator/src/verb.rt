@@ -1,9 +1,12 @@
 // The words that name commands.
+ghost use Rattle.tokens.specs.Options.{and_then};
+ghost use Rattle.calculator.specs.Parse.{at_most, numbers as numbers_of};
 ghost use Rattle.calculator.specs.Verb.{command_of, verb_of};
-ghost use Rattle.std.specs.Str.{bytes_eq};
 ghost use Rattle.std.specs.Prelude.{◌≡◌};
 
 use crate::command::Command;
+use crate::parse::numbers;
+use tokens::Words;
 
 #[derive(Clone, Copy)]
 pub(crate) enum Verb {
@@ -20,46 +23,56 @@ impl Verb {
     pub(crate) fn named(word: &[u8]) -> Option<Verb>
         ensures { result ≡ verb_of word.now }
     {
-        if is(word, "read") {
-            Some(Verb::Read)
-        } else if is(word, "write") {
-            Some(Verb::Write)
-        } else if is(word, "check") {
-            Some(Verb::Check)
-        } else if is(word, "range") {
-            Some(Verb::Range)
-        } else if is(word, "word") {
-            Some(Verb::Word)
-        } else if is(word, "reset") {
-            Some(Verb::Reset)
-        } else {
-            None
-        }
-    }
-
-    // The command with these numbers after the word.
-    pub(crate) fn with(self, numbers: &[u64]) -> Option<Command>
-        ensures { result ≡ command_of self numbers.now }
-    {
-        match (self, numbers) {
-            (Verb::Read, [privilege, number]) => Some(Command::Read(*privilege, *number)),
-            (Verb::Write, [privilege, number, word]) if *word < 0x1_0000_0000 => {
-                Some(Command::Write(*privilege, *number, *word as u32))
-            }
-            (Verb::Check, [privilege, kind, address, size]) => {
-                Some(Command::Check(*privilege, *kind, *address, *size))
-            }
-            (Verb::Range, [index]) if *index < 16 => Some(Command::Range(*index)),
-            (Verb::Word, [base, exponent]) => Some(Command::Word(*base, *exponent)),
-            (Verb::Reset, []) => Some(Command::Reset),
+        match word {
+            b"read" => Some(Verb::Read),
+            b"write" => Some(Verb::Write),
+            b"check" => Some(Verb::Check),
+            b"range" => Some(Verb::Range),
+            b"word" => Some(Verb::Word),
+            b"reset" => Some(Verb::Reset),
             _ => None,
         }
     }
-}
 
-// Whether a word is this name, byte by byte.
-fn is(word: &[u8], name: &str) -> bool
-    ensures { result ≡ bytes_eq word.now name.now }
-{
-    word == name.as_bytes()
+    // The command with the numbers that the words after it write.
+    pub(crate) fn with(self, words: Words) -> Option<Command>
+        ensures { result ≡ and_then (at_most 4 (numbers_of words.entry)) (command_of self) }
+    {
+        match self {
+            Verb::Read => {
+                let [privilege, number] = numbers::<2>(words)?;
+                Some(Command::Read { privilege, number })
+            }
+            Verb::Write => {
+                let [privilege, number, word] = numbers::<3>(words)?;
+                let word = u32::try_from(word).ok()?;
+                Some(Command::Write {
+                    privilege,
+                    number,
+                    word,
+                })
+            }
+            Verb::Check => {
+                let [privilege, kind, address, size] = numbers::<4>(words)?;
+                Some(Command::Check {
+                    privilege,
+                    kind,
+                    address,
+                    size,
+                })
+            }
+            Verb::Range => {
+                let [index] = numbers::<1>(words)?;
+                (index < 16).then_some(Command::Range { index })
+            }
+            Verb::Word => {
+                let [base, exponent] = numbers::<2>(words)?;
+                Some(Command::Word { base, exponent })
+            }
+            Verb::Reset => {
+                let [] = numbers::<0>(words)?;
+                Some(Command::Reset)
+            }
+        }
+    }
 }

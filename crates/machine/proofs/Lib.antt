@@ -1,6 +1,6 @@
 pub mod Ports
-pub mod OneByOne
+pub mod Spaced
 pub mod Stores
 pub mod Wiping
-pub mod Judged
+pub mod Refused
 pub mod Logs

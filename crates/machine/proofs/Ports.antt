@@ -16,8 +16,7 @@ module _ (l : List Entry) (p s b : ℕ) (three : p ≡ 3) (small : s < 16) where
   pub configured :
       (w r : ℕ) (bytes : List ℕ) (after : List Entry)
       → ◌≡◌ {A = Result ℕ Refusal} (Ok w) (read_answer l p (0x3A0 + s / 4)) → bytes ≡ four w → r ≡ word (set bytes (s % 4) b)
-      → after ≡ written l p (0x3A0 + s / 4) r → after ≡ configure l s b
+      → after ≡ written l 3 (0x3A0 + s / 4) r → after ≡ configure l s b
   unfolding configure
   configured w r bytes after h d m e =
-      e ∙ ap (λ x. written l x (0x3A0 + s / 4) r) three
-      ∙ ap (λ x. written l 3 (0x3A0 + s / 4) x) (m ∙ ap (λ x. word (set x (s % 4) b)) (d ∙ ap four (read_is w h)))
+      e ∙ ap (λ x. written l 3 (0x3A0 + s / 4) x) (m ∙ ap (λ x. word (set x (s % 4) b)) (d ∙ ap four (read_is w h)))

@@ -1,8 +1,8 @@
 -- bytes put one after another, and the number in them
-use Rattle.std.proofs.Common.{◌≡◌, ℕ, zero, suc, ◌+◌, ◌-◌, ◌*◌, ◌/◌, ◌%◌, ◌<◌, ◌≤◌, List, [], ◌∷◌, ◌++◌, length, get_or, take, set, replicate, unwrap_or, sym, refl, ap, ◌∙◌, append_assoc, arith}
+use Rattle.std.proofs.Common.{◌≡◌, ℕ, zero, suc, ◌+◌, ◌-◌, ◌*◌, ◌/◌, ◌%◌, ◌<◌, ◌≤◌, List, [], ◌∷◌, ◌++◌, length, get_or, take, drop, set, replicate, unwrap_or, sym, refl, ap, ◌∙◌, append_assoc, append-nil, arith}
 use lib.Seq.{sets}
 use Rattle.std.specs.List.{slice_get}
-use Rattle.std.proofs.lemmas.List.{length-append, length-replicate, length-take-le, set_at, take_more}
+use Rattle.std.proofs.lemmas.List.{drop-replicate, length-append, length-replicate, length-take-le, set_at, take_more}
 use Rattle.monitor.specs.Bytes.{low_bytes, number}
 
 sets_push : (xs : List ℕ) (p : ℕ) (bs : List ℕ) (b : ℕ) → sets xs p (bs ++ b ∷ []) ≡ set (sets xs p bs) (p + length bs) b
@@ -100,12 +100,16 @@ total_eight (a ∷ b ∷ c ∷ d ∷ e ∷ f ∷ []) k = absurd (omega arith)
 total_eight (a ∷ b ∷ c ∷ d ∷ e ∷ f ∷ g ∷ []) k = absurd (omega arith)
 total_eight (a ∷ b ∷ c ∷ d ∷ e ∷ f ∷ g ∷ h ∷ i ∷ bs) k = absurd (omega arith)
 
--- eight bytes that hold n of a memory's and then zeros
-pub number_eight : (xs bs : List ℕ) (a n : ℕ) → length bs ≡ 8 → bs ≡ part xs a n ++ replicate (8 - n) 0
-    → get_or bs 0 0 + get_or bs 1 0 * 256 + get_or bs 2 0 * 65536 + get_or bs 3 0 * 16777216 + get_or bs 4 0 * 4294967296 + get_or bs 5 0 * 1099511627776
-    + get_or bs 6 0 * 281474976710656 + get_or bs 7 0 * 72057594037927936
+-- the number in the first k of eight bytes, with zeros after them
+pub number_padded : (xs bs : List ℕ) (a n k : ℕ) → n ≤ 8 → k ≡ n → bs ≡ part xs a k ++ replicate (n - k) 0
+    → let cs = bs ++ drop n (0 ∷ 0 ∷ 0 ∷ 0 ∷ 0 ∷ 0 ∷ 0 ∷ 0 ∷ []) in
+    get_or cs 0 0 + get_or cs 1 0 * 256 + get_or cs 2 0 * 65536 + get_or cs 3 0 * 16777216 + get_or cs 4 0 * 4294967296 + get_or cs 5 0 * 1099511627776
+    + get_or cs 6 0 * 281474976710656 + get_or cs 7 0 * 72057594037927936
     ≡ number xs a n
-number_eight xs bs a n l e = total_eight bs l ∙ ap total e ∙ total_part xs a n (8 - n)
-
-pub length_filled : (xs : List ℕ) (a n : ℕ) → n ≤ 8 → length (part xs a n ++ replicate (8 - n) 0) ≡ 8
-length_filled xs a n h = simp (length-append, length_part, length-replicate) (omega arith)
+number_padded xs bs a n k h done e =
+    let none : n - k ≡ 0 = omega arith in
+    let all : bs ≡ part xs a n = e ∙ ap (λ z. part xs a k ++ replicate z 0) none ∙ append-nil (part xs a k) ∙ ap (part xs a) done in
+    let cs = bs ++ drop n (0 ∷ 0 ∷ 0 ∷ 0 ∷ 0 ∷ 0 ∷ 0 ∷ 0 ∷ []) in
+    let is : cs ≡ part xs a n ++ replicate (8 - n) 0 = ap (λ b. b ++ drop n (replicate 8 0)) all ∙ ap (λ z. part xs a n ++ z) (drop-replicate n 8 0) in
+    let long : length cs ≡ 8 = ap length is ∙ simp (length-append, length_part, length-replicate) (omega arith) in
+    total_eight cs long ∙ ap total is ∙ total_part xs a n (8 - n)

@@ -1,3 +1,1 @@
-pub mod Privilege
-pub mod Turns
 pub mod State

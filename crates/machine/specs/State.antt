@@ -1,20 +1,15 @@
--- what a machine holds, over whatever memory
-use Rattle.std.specs.Prelude.{ℕ, List}
-use Rattle.bank.specs.Registers.{content}
-use Rattle.machine.specs.Privilege.{privilege_number}
-use Rattle.machine.specs.declared.machine.Machine.{Machine}
+-- what clauses see of a machine, over whatever memory
+use Rattle.std.specs.Prelude.{ℕ, List, Some, None, Option}
 use Rattle.monitor.specs.Content.{Content}
+use Rattle.monitor.specs.declared.slot.Party.{Party}
+use Rattle.monitor.specs.declared.slot.Party.TheVariants.{Os, Enclave}
 
--- its content, by what its memory means
-abbrev pub content_of : {M : Type 0} → (M → List ℕ) → Machine M → Content
-content_of bytes m = record {
-  bank = content m.bank;
-  privilege = privilege_number m.hart.privilege;
-  slots = m.slots.list;
-  party = m.turn.party;
-  bytes = bytes m.memory;
-}
+-- its content, and what its memory's buffers hold besides
+pub record State : Type 0 where
+  pub content : Content
+  pub beyond : List ℕ
 
--- what its memory's buffers hold besides
-abbrev pub beyond_of : {M : Type 0} → (M → List ℕ) → Machine M → List ℕ
-beyond_of beyond m = beyond m.memory
+-- who runs: the enclave of a slot, named by its entry, or the operating system
+abbrev pub party_of : Option ℕ → Party
+party_of None = Os
+party_of (Some e) = Enclave e

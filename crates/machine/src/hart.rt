@@ -1,25 +1,8 @@
 // The hart's privilege, and the guard that raises it around work on the bank.
-ghost use Rattle.machine.specs.Privilege.{privilege_number};
+ghost use Rattle.bank.specs.declared.privilege.Privilege.TheVariants.{Machine};
 ghost use Rattle.std.specs.Prelude.{◌≡◌};
 
-#[derive(Clone, Copy)]
-pub enum Privilege {
-    User,
-    Supervisor,
-    Machine,
-}
-
-impl Privilege {
-    pub(crate) fn number(self) -> u64
-        ensures { result ≡ privilege_number self }
-    {
-        match self {
-            Privilege::User => 0,
-            Privilege::Supervisor => 1,
-            Privilege::Machine => 3,
-        }
-    }
-}
+use bank::Privilege;
 
 #[derive(Drop)]
 pub struct Hart {
@@ -28,7 +11,7 @@ pub struct Hart {
 
 // While it lives the hart is at machine privilege; its end puts `back` there.
 pub(crate) struct Raised<'a> {
-    pub(crate) hart: &'a mut Hart,
+    hart: &'a mut Hart,
     pub(crate) back: Privilege,
 }
 
@@ -36,8 +19,8 @@ impl Drop for Raised<'_> {
     fn drop(self)
         ensures { self.exit.0.now.privilege ≡ self.entry.back }
     {
-        self.hart.privilege = self.back;
-        let Raised { hart: _, back: _ } = self;
+        let Raised { hart, back } = self;
+        hart.privilege = back;
     }
 }
 
@@ -45,7 +28,7 @@ impl<'a> Raised<'a> {
     // Raises the hart; what it had before comes back at the guard's end.
     pub(crate) fn new(hart: &'a mut Hart) -> Self
         ensures back { result.back ≡ hart.old.privilege }
-        ensures raised { privilege_number result.hart.now.privilege ≡ 3 }
+        ensures raised { result.hart.now.privilege ≡ Machine }
         ensures same { result.hart.ghost_name ≡ hart.entry.ghost_name }
     {
         let back = hart.privilege;

@@ -4,15 +4,16 @@
 mod access;
 mod bytes;
 mod calls;
+mod entry;
 mod hart;
 mod laws;
 mod machine;
+mod placement;
 mod questions;
 mod registers;
 mod run;
 mod shipped_box;
 mod slots;
-mod turn;
 
 pub use machine::Machine;
 pub use shipped_box::shipped;

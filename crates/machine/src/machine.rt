@@ -1,29 +1,47 @@
 // The machine: made over a memory, and given back as that memory.
-ghost use Rattle.bank.specs.Content.{blank};
-ghost use Rattle.bank.specs.Registers.{content};
-ghost use Rattle.machine.specs.State.{beyond_of, content_of};
-ghost use Rattle.monitor.specs.Content.{new_bank, new_content};
+ghost use Rattle.monitor.specs.Content.{new_content};
 ghost use Rattle.monitor.specs.Examples.{MachineExamples};
 ghost use Rattle.monitor.specs.Layout.{starts};
 ghost use Rattle.refusals.specs.Questions.{ruling};
 ghost use Rattle.refusals.specs.declared.Refusal.TheVariants.{MemoryLength};
 ghost use Rattle.std.specs.Prelude.{◌≡◌, [], ◌∷◌, length};
 
-use crate::hart::{Hart, Privilege, Raised};
+use crate::entry::Entry;
+use crate::hart::{Hart, Raised};
 use crate::laws;
 use crate::slots::Slots;
-use crate::turn::Turn;
-use bank::Bank;
+use bank::{Bank, Privilege};
 use memory::Memory;
 use refusals::Refusal;
+use std::marker::Model;
 
+// Clauses see its content, and what its memory's buffers hold besides.
 #[derive(Drop)]
 pub struct Machine<M: Memory> {
     pub(crate) hart: Hart,
     pub(crate) bank: Bank,
     pub(crate) slots: Slots,
-    pub(crate) turn: Turn,
+    // The slot that runs, or none where the operating system does.
+    pub(crate) turn: Option<Entry>,
     pub(crate) memory: M,
+}
+
+impl<M: Memory> Model for Machine<M> {
+    ghost use Rattle.bank.specs.Privilege.{privilege_number};
+    ghost use Rattle.machine.specs.State.{State, party_of};
+
+    ghost Value = { State };
+
+    ghost view = { λ m. record {
+      content = record {
+        bank = m.bank;
+        privilege = privilege_number m.hart.privilege;
+        slots = m.slots;
+        party = party_of m.turn;
+        bytes = M.Memory.bytes m.memory;
+      };
+      beyond = M.Memory.beyond m.memory;
+    } };
 }
 
 impl<M: Memory> Machine<M> {
@@ -41,8 +59,8 @@ impl<M: Memory> Machine<M> {
     // A new machine: the operating system runs, and every slot is free. Over a memory that
     // starts none its bank is new, and every call is refused.
     pub fn new(memory: M) -> Self
-        ensures made { content_of M.Memory.bytes result ≡ new_content (M.Memory.bytes memory) }
-        ensures beyond { beyond_of M.Memory.beyond result ≡ M.Memory.beyond memory }
+        ensures made { result.content ≡ new_content (M.Memory.bytes memory) }
+        ensures beyond { result.beyond ≡ M.Memory.beyond memory }
         ensures examples { MachineExamples }
     {
         laws::machine_examples();
@@ -52,21 +70,21 @@ impl<M: Memory> Machine<M> {
         let mut bank = Bank::new();
         if starting(memory.len()) {
             let guard = Raised::new(&mut hart);
-            set_up(&mut bank, guard.hart.privilege.number());
+            guard.set_up(&mut bank);
         }
         Machine {
             hart,
             bank,
             slots: Slots::new(),
-            turn: Turn::system(),
+            turn: None,
             memory,
         }
     }
 
     // The memory, as the calls have left it.
     pub fn into_memory(self) -> M
-        ensures bytes { M.Memory.bytes result ≡ (content_of M.Memory.bytes self).bytes }
-        ensures beyond { M.Memory.beyond result ≡ beyond_of M.Memory.beyond self }
+        ensures bytes { M.Memory.bytes result ≡ self.content.bytes }
+        ensures beyond { M.Memory.beyond result ≡ self.beyond }
     {
         self.memory
     }
@@ -76,16 +94,4 @@ pub(crate) fn starting(length: u64) -> bool
     ensures { result ≡ starts length }
 {
     length >= 16_384 && length <= 1 << 34 && length % 4_096 == 0
-}
-
-// The monitor page, the common page and the operating system's entry.
-fn set_up(bank: &mut Bank, privilege: u64)
-    requires { (privilege ≡ 3) × (content bank.old ≡ blank) }
-    ensures { content bank.new ≡ new_bank }
-{
-    let _ = bank.write(privilege, 0x3B0, 0x1FF);
-    let _ = bank.write(privilege, 0x3B1, 0x5FF);
-    let _ = bank.write(privilege, 0x3BF, 0xFFFF_FFFF);
-    let _ = bank.write(privilege, 0x3A0, 0x9D18);
-    let _ = bank.write(privilege, 0x3A3, 0x1F00_0000);
 }

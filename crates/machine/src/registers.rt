@@ -1,27 +1,49 @@
-// An entry's byte and word, written through the bank's registers.
-ghost use Rattle.std.specs.Prelude.{◌≡◌, ◌<◌};
-ghost use Rattle.bank.specs.Registers.{content};
-ghost use Rattle.monitor.specs.Content.{address, configure};
+// The bank's registers, reached only through the guard: while it lives the hart is at machine
+// privilege.
+ghost use Rattle.std.specs.Prelude.{◌≡◌};
+ghost use Rattle.bank.specs.Content.{blank};
+ghost use Rattle.bank.specs.Registers.{written};
+ghost use Rattle.monitor.specs.Content.{address, configure, new_bank};
 
-use bank::Bank;
+use crate::entry::Entry;
+use crate::hart::Raised;
+use bank::{Bank, Privilege};
 
-// Writes an entry's byte; the other three of its register stay.
-pub(crate) fn set_byte(bank: &mut Bank, privilege: u64, entry: u64, byte: u8)
-    requires { (privilege ≡ 3) × (entry < 16) }
-    ensures { content bank.new ≡ configure (content bank.old) entry byte }
-{
-    let number = 0x3A0 + entry / 4;
-    if let Ok(word) = bank.read(privilege, number) {
-        let mut bytes = word.to_le_bytes();
-        bytes[(entry % 4) as usize] = byte;
-        let _ = bank.write(privilege, number, u32::from_le_bytes(bytes));
+impl Raised<'_> {
+    fn write(&self, bank: &mut Bank, number: u64, word: u32)
+        ensures { bank.new ≡ written bank.old 3 number word }
+    {
+        let _ = bank.write(Privilege::Machine.into(), number, word);
     }
-}
 
-// Writes an entry's word.
-pub(crate) fn set_word(bank: &mut Bank, privilege: u64, entry: u64, word: u32)
-    requires { (privilege ≡ 3) × (entry < 16) }
-    ensures { content bank.new ≡ address (content bank.old) entry word }
-{
-    let _ = bank.write(privilege, 0x3B0 + entry, word);
+    // Writes an entry's byte; the other three of its register stay.
+    pub(crate) fn set_byte(&self, bank: &mut Bank, entry: Entry, byte: u8)
+        ensures { bank.new ≡ configure bank.old entry byte }
+    {
+        let number = 0x3A0 + entry.number / 4;
+        if let Ok(word) = bank.read(Privilege::Machine.into(), number) {
+            let mut bytes = word.to_le_bytes();
+            bytes[(entry.number % 4) as usize] = byte;
+            self.write(bank, number, u32::from_le_bytes(bytes));
+        }
+    }
+
+    // Writes an entry's word.
+    pub(crate) fn set_word(&self, bank: &mut Bank, entry: Entry, word: u32)
+        ensures { bank.new ≡ address bank.old entry word }
+    {
+        self.write(bank, 0x3B0 + entry.number, word);
+    }
+
+    // Puts the monitor page, the common page and the operating system's entry into a new bank.
+    pub(crate) fn set_up(&self, bank: &mut Bank)
+        requires { bank.old ≡ blank }
+        ensures { bank.new ≡ new_bank }
+    {
+        self.write(bank, 0x3B0, 0x1FF);
+        self.write(bank, 0x3B1, 0x5FF);
+        self.write(bank, 0x3BF, 0xFFFF_FFFF);
+        self.write(bank, 0x3A0, 0x9D18);
+        self.write(bank, 0x3A3, 0x1F00_0000);
+    }
 }

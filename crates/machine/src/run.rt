@@ -1,5 +1,4 @@
 // Any call, and a log of calls: each answer is put beside its call.
-ghost use Rattle.machine.specs.State.{beyond_of, content_of};
 ghost use Rattle.monitor.specs.Content.{banked, call_after, call_answer};
 ghost use Rattle.monitor.specs.Laws.{DestroysClear, RollLaws};
 ghost use Rattle.monitor.specs.Theorem.{ClosedOff, calls, log as logged, ran};
@@ -15,19 +14,19 @@ use refusals::Refusal;
 impl<M: Memory> Machine<M> {
     // A party's try at a protection register: no party has the privilege for it.
     pub fn register(&self, number: u64, word: u64) -> Answer
-        ensures { result ≡ call_answer (content_of M.Memory.bytes self.now) (Register number word) }
+        ensures { result ≡ call_answer self.now.content (Register number word) }
     {
         if self.started() {
-            Answer::Refused(Refusal::NotMachine)
+            Err(Refusal::NotMachine.into())
         } else {
-            Answer::Refused(Refusal::NotStarted)
+            Err(Refusal::NotStarted.into())
         }
     }
 
     pub fn call(&mut self, call: Call) -> Answer
-        ensures answer { result ≡ call_answer (content_of M.Memory.bytes self.old) call }
-        ensures after { content_of M.Memory.bytes self.new ≡ call_after (content_of M.Memory.bytes self.old) call }
-        ensures beyond { beyond_of M.Memory.beyond self.new ≡ beyond_of M.Memory.beyond self.old }
+        ensures answer { result ≡ call_answer self.old.content call }
+        ensures after { self.new.content ≡ call_after self.old.content call }
+        ensures beyond { self.new.beyond ≡ self.old.beyond }
     {
         match call {
             Call::Create {
@@ -51,9 +50,9 @@ impl<M: Memory> Machine<M> {
 
     // Runs the calls of a log in order, and puts each answer beside its call.
     pub fn run(&mut self, log: &mut [(Call, Answer)])
-        ensures log { log.new ≡ logged banked (content_of M.Memory.bytes self.old) (calls log.old) }
-        ensures after { content_of M.Memory.bytes self.new ≡ ran banked (content_of M.Memory.bytes self.old) (calls log.old) }
-        ensures beyond { beyond_of M.Memory.beyond self.new ≡ beyond_of M.Memory.beyond self.old }
+        ensures log { log.new ≡ logged banked self.old.content (calls log.old) }
+        ensures after { self.new.content ≡ ran banked self.old.content (calls log.old) }
+        ensures beyond { self.new.beyond ≡ self.old.beyond }
         ensures closed { ClosedOff banked }
         ensures roll { RollLaws }
         ensures clears { DestroysClear }
@@ -65,9 +64,9 @@ impl<M: Memory> Machine<M> {
     }
 
     fn run_through(&mut self, log: &mut [(Call, Answer)])
-        ensures log { log.new ≡ logged banked (content_of M.Memory.bytes self.old) (calls log.old) }
-        ensures after { content_of M.Memory.bytes self.new ≡ ran banked (content_of M.Memory.bytes self.old) (calls log.old) }
-        ensures beyond { beyond_of M.Memory.beyond self.new ≡ beyond_of M.Memory.beyond self.old }
+        ensures log { log.new ≡ logged banked self.old.content (calls log.old) }
+        ensures after { self.new.content ≡ ran banked self.old.content (calls log.old) }
+        ensures beyond { self.new.beyond ≡ self.old.beyond }
     {
         for step in log.iter_mut() {
             step.1 = self.call(step.0);

@@ -1,44 +1,53 @@
 // The slots, named by their entries.
-ghost use Rattle.std.specs.Prelude.{◌≡◌, ◌<◌, replicate, slice_set};
+ghost use Rattle.std.specs.Prelude.{◌≡◌, replicate, slice_set};
+ghost use Rattle.std.specs.List.{list_all};
 ghost use Rattle.monitor.specs.Content.{slot_of};
 ghost use Rattle.monitor.specs.Roll.{apart as ranges_apart, apart_below};
-ghost use Rattle.monitor.specs.Slots.{moved};
+ghost use Rattle.monitor.specs.Slots.{moved, ranged};
 ghost use Rattle.monitor.specs.declared.slot.Slot.TheVariants.{Free};
 
+use crate::entry::Entry;
 use monitor::{Event, Slot};
+use std::marker::Model;
 
-// How many entries there are, and the operating system's, which no slot has.
+// How many entries there are.
 const COUNT: usize = 16;
 
-pub(crate) const SYSTEM: u64 = 15;
-
+// Clauses see a list of slots.
 #[derive(Drop)]
 pub struct Slots {
-    pub(crate) list: [Slot; COUNT],
+    list: [Slot; COUNT],
+}
+
+impl Model for Slots {
+    ghost use Rattle.monitor.specs.declared.slot.Slot.{Slot};
+    ghost use Rattle.std.specs.Prelude.{List};
+
+    ghost Value = { List Slot };
+
+    ghost view = { λ s. s.list };
 }
 
 impl Slots {
     pub(crate) fn new() -> Self
-        ensures { result.list ≡ replicate 16 Free }
+        ensures { result ≡ replicate 16 Free }
     {
         Slots {
             list: [Slot::Free; COUNT],
         }
     }
 
-    pub(crate) fn get(&self, i: u64) -> Slot
-        requires { i < 16 }
-        ensures { result ≡ slot_of self.now.list i }
+    pub(crate) fn get(&self, entry: Entry) -> Slot
+        ensures { result ≡ slot_of self.now entry }
     {
-        self.list[i as usize]
+        self.list[entry.number as usize]
     }
 
     // What the slot's stage and the event decide together; the other slots stay.
-    pub(crate) fn step(&mut self, i: u64, event: Event)
-        requires { i < 16 }
-        ensures { self.new.list ≡ slice_set self.old.list i (moved (slot_of self.old.list i) event) }
+    pub(crate) fn step(&mut self, entry: Entry, event: Event)
+        ensures { self.new ≡ slice_set self.old entry (moved (slot_of self.old entry) event) }
     {
-        let slot = &mut self.list[i as usize];
+        let slot = &mut self.list[entry.number as usize];
         *slot = match (*slot, event) {
             (Slot::Free, Event::Create(range)) => Slot::Fresh(range),
             (Slot::Fresh(range) | Slot::Stopped(range), Event::Enter) => Slot::Running(range),
@@ -49,17 +58,18 @@ impl Slots {
         };
     }
 
-    // Whether a range has no byte in common with any slot's.
+    // Whether a range has no byte in common with any slot's. The last entry is no slot's.
     pub(crate) fn apart(&self, range: (u64, u64)) -> bool
-        ensures { result ≡ apart_below (slot_of self.now.list) range.0 range.1 15 }
+        ensures { result ≡ apart_below (slot_of self.now) range.0 range.1 15 }
     {
-        let mut all = true;
-        for i in 0..SYSTEM as usize {
-            let one = apart(self.list[i].range(), range);
-            all = one && all;
-        }
-        all
+        all_apart(&self.list[..COUNT - 1], range)
     }
+}
+
+fn all_apart(slots: &[Slot], range: (u64, u64)) -> bool
+    ensures { result ≡ list_all (λ s. ranges_apart (ranged s) range.0 range.1) slots.now }
+{
+    slots.iter().all(|slot| apart(slot.range(), range))
 }
 
 // Whether two ranges have no byte in common.

@@ -1,8 +1,9 @@
-use Rattle.std.proofs.Common.{◌≡◌, ℕ, zero, suc, ◌+◌, ◌*◌, ◌/◌, ◌%◌, ◌<◌, min, List, [], ◌∷◌, length, get_or, drop, set, sym, refl, ap, ◌∙◌, arith, length-set}
+use Rattle.std.proofs.Common.{◌≡◌, ℕ, zero, suc, ◌+◌, ◌*◌, ◌/◌, ◌%◌, ◌^◌, ◌<◌, min, List, [], ◌∷◌, length, drop, set, sym, refl, ap, ◌∙◌, arith, length-set}
 use Rattle.std.specs.List.{slice_get}
-use Rattle.memory.proofs.Front.{drop_set, front_set, length_front, rest_set, small_front}
+use Rattle.std.proofs.lemmas.List.{drop-set-lt}
+use Rattle.memory.proofs.Front.{front_set, length_front, nth_front, rest_set, small_front}
 use Rattle.memory.specs.Meaning.{joined_beyond, joined_bytes}
-use Rattle.memory.specs.Bytes.{front, rest}
+use Rattle.memory.specs.Bytes.{AllBytes, front, rest}
 use Rattle.memory.specs.Turns.{turns, unturned}
 
 pub length_turns : (xs ys : List ℕ) → length (turns xs ys) ≡ 2 * min (length xs) (length ys)
@@ -46,7 +47,7 @@ set_turns_odd (x ∷ xs) (y ∷ ys) (suc q) b =
     let e : 2 * suc q + 1 ≡ suc (suc (2 * q + 1)) = omega arith in
     rw e (ap (λ zs. x ∷ y ∷ zs) (set_turns_odd xs ys q b))
 
-small_turns : (xs ys : List ℕ) → ((k : ℕ) → get_or xs k 0 < 256) → ((k : ℕ) → get_or ys k 0 < 256) → (k : ℕ) → get_or (turns xs ys) k 0 < 256
+small_turns : (xs ys : List ℕ) → AllBytes xs → AllBytes ys → AllBytes (turns xs ys)
 unfolding turns
 small_turns [] ys h g k = omega arith
 small_turns (x ∷ xs) [] h g k = omega arith
@@ -54,45 +55,68 @@ small_turns (x ∷ xs) (y ∷ ys) h g zero = h 0
 small_turns (x ∷ xs) (y ∷ ys) h g (suc zero) = g 0
 small_turns (x ∷ xs) (y ∷ ys) h g (suc (suc k)) = small_turns xs ys (λ j. h (suc j)) (λ j. g (suc j)) k
 
-pub small_joined : (xs ys : List ℕ) → ((k : ℕ) → get_or xs k 0 < 256) → ((k : ℕ) → get_or ys k 0 < 256) → (k : ℕ) → get_or (joined_bytes xs ys) k 0 < 256
+pub small_joined : (xs ys : List ℕ) → AllBytes xs → AllBytes ys → AllBytes (joined_bytes xs ys)
 small_joined xs ys h g = small_front (turns xs ys) (small_turns xs ys h g)
 
 pub both_within : (xs ys : List ℕ) (p : ℕ) → p < length (joined_bytes xs ys) → (p / 2 < length xs) × (p / 2 < length ys)
 both_within xs ys p h =
     (omega (arith, length_front (turns xs ys), length_turns xs ys), omega (arith, length_front (turns xs ys), length_turns xs ys))
 
--- what a write to one of the two leaves
-module _ (xs ys zs : List ℕ) (p b : ℕ) (within : p < length (joined_bytes xs ys)) where
-  even_turns : p % 2 ≡ 0 → zs ≡ set xs (p / 2) b → turns zs ys ≡ set (turns xs ys) p b
-  even_turns h e =
+pub length_joined : (xs ys : List ℕ) → length (joined_bytes xs ys) ≡ min (2 ^ 34) (2 * min (length xs) (length ys))
+length_joined xs ys = omega (arith, length_front (turns xs ys), length_turns xs ys)
+
+-- a read of one of the two, and what a write to it leaves
+module _ (xs ys : List ℕ) (p : ℕ) (within : p < length (joined_bytes xs ys)) where
+  cut : p < 2 ^ 34
+  cut = omega (arith, length_front (turns xs ys))
+
+  pub even_read : p % 2 ≡ 0 → slice_get (joined_bytes xs ys) p ≡ slice_get xs (p / 2)
+  even_read h =
       let k : 2 * (p / 2) ≡ p = omega arith in
-      ap (λ l. turns l ys) e ∙ sym (set_turns_even xs ys (p / 2) b) ∙ ap (λ i. set (turns xs ys) i b) k
+      nth_front (turns xs ys) p cut
+      ∙ ap (slice_get (turns xs ys)) (sym k)
+      ∙ nth_turns_even xs ys (p / 2) (both_within xs ys p within).1
 
-  pub even_write : p % 2 ≡ 0 → zs ≡ set xs (p / 2) b → joined_bytes zs ys ≡ set (joined_bytes xs ys) p b
-  even_write h e = ap front (even_turns h e) ∙ front_set (turns xs ys) p b
-
-  pub even_beyond : p % 2 ≡ 0 → zs ≡ set xs (p / 2) b → joined_beyond zs ys ≡ joined_beyond xs ys
-  unfolding unturned
-  even_beyond h e =
-      let both = both_within xs ys p within in
-      let cut : rest (turns zs ys) ≡ rest (turns xs ys) = ap rest (even_turns h e) ∙ rest_set (turns xs ys) p b within in
-      let long : length zs ≡ length xs = ap length e ∙ simp length-set in
-      let tail : drop (length ys) zs ≡ drop (length ys) xs = ap (drop (length ys)) e ∙ drop_set (length ys) xs (p / 2) b both.1 in
-      simp (cut, long, tail)
-
-  odd_turns : p % 2 ≡ 1 → zs ≡ set ys (p / 2) b → turns xs zs ≡ set (turns xs ys) p b
-  odd_turns h e =
+  pub odd_read : p % 2 ≡ 1 → slice_get (joined_bytes xs ys) p ≡ slice_get ys (p / 2)
+  odd_read h =
       let k : 2 * (p / 2) + 1 ≡ p = omega arith in
-      ap (λ l. turns xs l) e ∙ sym (set_turns_odd xs ys (p / 2) b) ∙ ap (λ i. set (turns xs ys) i b) k
+      nth_front (turns xs ys) p cut
+      ∙ ap (slice_get (turns xs ys)) (sym k)
+      ∙ nth_turns_odd xs ys (p / 2) (both_within xs ys p within).0
 
-  pub odd_write : p % 2 ≡ 1 → zs ≡ set ys (p / 2) b → joined_bytes xs zs ≡ set (joined_bytes xs ys) p b
-  odd_write h e = ap front (odd_turns h e) ∙ front_set (turns xs ys) p b
+  module _ (b : ℕ) where
+    even_turns : p % 2 ≡ 0 → turns (set xs (p / 2) b) ys ≡ set (turns xs ys) p b
+    even_turns h =
+        let k : 2 * (p / 2) ≡ p = omega arith in
+        sym (set_turns_even xs ys (p / 2) b) ∙ ap (λ i. set (turns xs ys) i b) k
 
-  pub odd_beyond : p % 2 ≡ 1 → zs ≡ set ys (p / 2) b → joined_beyond xs zs ≡ joined_beyond xs ys
-  unfolding unturned
-  odd_beyond h e =
-      let both = both_within xs ys p within in
-      let cut : rest (turns xs zs) ≡ rest (turns xs ys) = ap rest (odd_turns h e) ∙ rest_set (turns xs ys) p b within in
-      let long : length zs ≡ length ys = ap length e ∙ simp length-set in
-      let tail : drop (length xs) zs ≡ drop (length xs) ys = ap (drop (length xs)) e ∙ drop_set (length xs) ys (p / 2) b both.0 in
-      simp (cut, long, tail)
+    pub even_write : p % 2 ≡ 0 → joined_bytes (set xs (p / 2) b) ys ≡ set (joined_bytes xs ys) p b
+    even_write h = ap front (even_turns h) ∙ front_set (turns xs ys) p b cut
+
+    pub even_beyond : p % 2 ≡ 0 → joined_beyond (set xs (p / 2) b) ys ≡ joined_beyond xs ys
+    unfolding unturned
+    even_beyond h =
+        let past : rest (turns (set xs (p / 2) b) ys) ≡ rest (turns xs ys) = ap rest (even_turns h) ∙ rest_set (turns xs ys) p b cut in
+        let tail : drop (length ys) (set xs (p / 2) b) ≡ drop (length ys) xs =
+        drop-set-lt (length ys) xs (p / 2) b (both_within xs ys p within).1
+        in
+        simp (past, length-set, tail)
+
+    odd_turns : p % 2 ≡ 1 → turns xs (set ys (p / 2) b) ≡ set (turns xs ys) p b
+    odd_turns h =
+        let k : 2 * (p / 2) + 1 ≡ p = omega arith in
+        sym (set_turns_odd xs ys (p / 2) b) ∙ ap (λ i. set (turns xs ys) i b) k
+
+    pub odd_write : p % 2 ≡ 1 → joined_bytes xs (set ys (p / 2) b) ≡ set (joined_bytes xs ys) p b
+    odd_write h = ap front (odd_turns h) ∙ front_set (turns xs ys) p b cut
+
+    pub odd_beyond : p % 2 ≡ 1 → joined_beyond xs (set ys (p / 2) b) ≡ joined_beyond xs ys
+    unfolding unturned
+    odd_beyond h =
+        let past : rest (turns xs (set ys (p / 2) b)) ≡ rest (turns xs ys) = ap rest (odd_turns h) ∙ rest_set (turns xs ys) p b cut in
+        let tail : drop (length xs) (set ys (p / 2) b) ≡ drop (length xs) ys =
+        drop-set-lt (length xs) ys (p / 2) b (both_within xs ys p within).0
+        in
+        simp (past, length-set, tail)
+
+pub ruleset joins = (length_joined, small_joined, even_read, odd_read, even_write, odd_write, even_beyond, odd_beyond)

@@ -1,9 +1,6 @@
-use Rattle.std.proofs.Common.{◌≡◌, ℕ, zero, suc, ◌+◌, ◌*◌, ◌/◌, ◌%◌, ◌<◌, List, [], ◌∷◌, ◌++◌, length, get_or, set, Some, sym, refl, ap, ◌∙◌, arith}
-use Rattle.std.proofs.lemmas.List.{get_or-append-add, get_or_append_left, length-append, set-append_left, get_or_read}
-use Rattle.std.specs.List.{slice_get}
-use Rattle.std.proofs.lemmas.Option.{slice_get-get_or}
-use Rattle.memory.proofs.Front.{front_set, get_d_front, length_front, rest_set}
-use Rattle.memory.specs.Bytes.{front, rest}
+use Rattle.std.proofs.Common.{◌≡◌, ℕ, zero, suc, ◌+◌, ◌*◌, ◌/◌, ◌%◌, ◌<◌, List, [], ◌∷◌, ◌++◌, length, get_or, set, sym, refl, ap, ◌∙◌, arith}
+use Rattle.std.proofs.lemmas.List.{get_or_default, get_or-append-add, get_or_append_left, length-append, set-append_left, get_or_read}
+use Rattle.memory.specs.Bytes.{AllBytes}
 use Rattle.memory.specs.Words.{four, spread}
 
 pub length_spread : (ws : List ℕ) → length (spread ws) ≡ 4 * length ws
@@ -52,7 +49,7 @@ set_spread (w ∷ ws) (suc q) r b h l m =
     let e : 4 * suc q + r ≡ suc (suc (suc (suc (4 * q + r)))) = omega arith in
     rw e (ap (λ zs. four w ++ zs) (set_spread ws q r b (omega arith) l m))
 
-pub small_spread : (ws : List ℕ) (k : ℕ) → get_or (spread ws) k 0 < 256
+pub small_spread : (ws : List ℕ) → AllBytes (spread ws)
 unfolding spread
 small_spread [] k = omega arith
 small_spread (w ∷ ws) zero = omega arith
@@ -61,32 +58,24 @@ small_spread (w ∷ ws) (suc (suc zero)) = omega arith
 small_spread (w ∷ ws) (suc (suc (suc zero))) = omega arith
 small_spread (w ∷ ws) (suc (suc (suc (suc k)))) = small_spread ws k
 
--- what a read of the word memory gives, and what a write leaves
-module _ (ws : List ℕ) (p : ℕ) (within : p < length (front (spread ws))) where
-  inside : p / 4 < length ws
-  inside = omega (arith, length_front (spread ws), length_spread ws)
-
-  pub spread_read : slice_get (front (spread ws)) p ≡ Some (get_or (four (get_or ws (p / 4) 0)) (p % 4) 0)
+-- what a read of the words gives, and what a write leaves
+module _ (ws : List ℕ) (p : ℕ) (inside : p / 4 < length ws) where
+  pub spread_read : get_or (spread ws) p 0 ≡ get_or (four (get_or ws (p / 4) 0)) (p % 4) 0
   spread_read =
       let e : 4 * (p / 4) + p % 4 ≡ p = omega arith in
-      slice_get-get_or (front (spread ws)) p 0 within
-      ∙ ap Some
-      (get_d_front (spread ws) p 0 within
-      ∙ ap (λ n. get_or (spread ws) n 0) (sym e)
-      ∙ getD_spread ws (p / 4) (p % 4) 0 inside (omega arith))
+      ap (λ n. get_or (spread ws) n 0) (sym e) ∙ getD_spread ws (p / 4) (p % 4) 0 inside (omega arith)
 
-  -- w is the word there, l its bytes, r the word with byte b in its place
-  module _ (w : ℕ) (is : w ≡ get_or ws (p / 4) w) (b r : ℕ) (l : List ℕ) (small : b < 256) (bytes : l ≡ four w) (made : r ≡ word (set l (p % 4) b)) where
-    written : spread (set ws (p / 4) r) ≡ set (spread ws) p b
-    written =
+  -- w is the word there, and l its bytes
+  module _ (w : ℕ) (is : w ≡ get_or ws (p / 4) w) (l : List ℕ) (bytes : l ≡ four w) where
+    here : l ≡ four (get_or ws (p / 4) 0)
+    here = bytes ∙ ap four (get_or_read ws (p / 4) w inside is 0)
+
+    -- r is the word with byte b in its place
+    pub spread_set : (b r : ℕ) → b < 256 → r ≡ word (set l (p % 4) b) → spread (set ws (p / 4) r) ≡ set (spread ws) p b
+    spread_set b r small made =
         let e : 4 * (p / 4) + p % 4 ≡ p = omega arith in
-        let f : w ≡ get_or ws (p / 4) 0 = get_or_read ws (p / 4) w inside is 0 in
-        ap (λ n. spread (set ws (p / 4) n)) (made ∙ ap (λ m. word (set m (p % 4) b)) (bytes ∙ ap four f))
+        ap (λ n. spread (set ws (p / 4) n)) (made ∙ ap (λ m. word (set m (p % 4) b)) here)
         ∙ sym (set_spread ws (p / 4) (p % 4) b inside (omega arith) small)
         ∙ ap (λ n. set (spread ws) n b) e
 
-    pub spread_write : front (spread (set ws (p / 4) r)) ≡ set (front (spread ws)) p b
-    spread_write = ap front written ∙ front_set (spread ws) p b
-
-    pub spread_beyond : rest (spread (set ws (p / 4) r)) ≡ rest (spread ws)
-    spread_beyond = ap rest written ∙ rest_set (spread ws) p b within
+pub ruleset spreads = (length_spread, small_spread, spread_read, spread_set, get_or_default)

@@ -1,43 +1,27 @@
-// A buffer of bytes as a memory: the first 2^34 of them.
-ghost use Rattle.std.specs.Prelude.{◌≡◌, ℕ, ◌^◌, ◌<◌, ◌≤◌, length, is_some, nat_lt, slice_index, slice_set};
-ghost use Rattle.memory.specs.Bytes.{front, rest};
-ghost use Rattle.std.specs.List.{slice_get};
+// What lies under a memory: a buffer, as one byte after another.
+ghost use Rattle.memory.specs.Bytes.{AllBytes};
+ghost use Rattle.std.specs.Prelude.{◌≡◌, ℕ, ◌-◌, ◌^◌, ◌<◌, List, length, min, slice_index, slice_set};
 
-use crate::traits::LIMIT;
+pub(crate) trait Buffer {
+    // All of its bytes.
+    ghost all: { Self → List ℕ };
 
-pub(crate) fn size(buffer: &[u8]) -> u64
-    ensures value { result ≡ length (front buffer.now) }
-    ensures bounded { result ≤ 2 ^ 34 }
-    ensures small { (k : ℕ) → slice_index (front buffer.now) k < 256 }
-{
-    (buffer.len() as u64).min(LIMIT)
-}
+    // Under which loan it is, if it is lent.
+    ghost loan: { Self → List ℕ };
 
-pub(crate) fn get(buffer: &[u8], place: u64) -> Option<u8>
-    ensures { result ≡ slice_get (front buffer.now) place }
-{
-    if place >= size(buffer) {
-        return None;
-    }
-    Some(buffer[place as usize])
-}
+    // How many bytes there are, or the largest u64 if there are more.
+    fn count(&self) -> u64
+        ensures value { result ≡ min (length (all self.now)) (2 ^ 64 - 1) }
+        ensures small { AllBytes (all self.now) };
 
-pub(crate) fn put(buffer: &mut [u8], place: u64, byte: u8) -> Option<()>
-    ensures answer { is_some result ≡ nat_lt place (length (front buffer.old)) }
-    ensures after { front buffer.new ≡ slice_set (front buffer.old) place byte }
-    ensures beyond { rest buffer.new ≡ rest buffer.old }
-{
-    if place >= size(buffer) {
-        return None;
-    }
-    buffer[place as usize] = byte;
-    Some(())
-}
+    // The byte at a place.
+    fn byte(&self, place: u64) -> u8
+        requires { place < length (all self.now) }
+        ensures { result ≡ slice_index (all self.now) place };
 
-pub(crate) fn put_in(buffer: &mut Vec<u8>, place: u64, byte: u8) -> Option<()>
-    ensures answer { is_some result ≡ nat_lt place (length (front buffer.old.items)) }
-    ensures after { front buffer.new.items ≡ slice_set (front buffer.old.items) place byte }
-    ensures beyond { rest buffer.new.items ≡ rest buffer.old.items }
-{
-    put(buffer, place, byte)
+    // Puts a byte at a place.
+    fn set_byte(&mut self, place: u64, byte: u8)
+        requires { place < length (all self.old) }
+        ensures after { all self.new ≡ slice_set (all self.old) place byte }
+        ensures loan { loan self.new ≡ loan self.old };
 }

@@ -1,5 +1,7 @@
 // Laws of the memories. A function here does nothing when it is run: a call that calls it
 // promises its law beside its own answer.
+#![tactic(auto, using(crate::proofs::Places::laws))]
+
 ghost use Rattle.memory.specs.Laws.{BytesInPlace, HalvesInTurn, ReadsBack, WordsInPlace};
 
 // What is written is read back, and nothing else changes.

@@ -2,6 +2,7 @@
 #![tactic(auto)]
 
 mod buffer;
+mod buffered;
 mod byte;
 mod laws;
 mod pair;
@@ -9,6 +10,7 @@ mod slice;
 mod traits;
 mod word;
 
+pub use buffered::BufferMemory;
 pub use byte::ByteMemory;
 pub use pair::PairMemory;
 pub use slice::{SliceMemory, put_lent};

@@ -1,40 +1,38 @@
 // A memory over a lent buffer of bytes: the lender finds the memory's bytes in it afterwards.
-ghost use Rattle.memory.specs.Bytes.{front, rest};
-ghost use Rattle.std.specs.Prelude.{◌≡◌, ◌∷◌, length, is_some, nat_lt, slice_set};
+ghost use Rattle.memory.specs.Bytes.{AllBytes, front, rest};
+ghost use Rattle.std.specs.Prelude.{◌≡◌, ◌∷◌, [], length, is_some, nat_lt, slice_set};
 
-use crate::buffer;
+use crate::buffer::Buffer;
+use crate::buffered::BufferMemory;
 use crate::traits::Memory;
 
-#[derive(Drop)]
-pub struct SliceMemory<'a> {
-    buffer: &'a mut [u8],
-}
+pub type SliceMemory<'a> = BufferMemory<&'a mut [u8]>;
 
-impl<'a> SliceMemory<'a> {
-    pub fn new(buffer: &'a mut [u8]) -> Self
-        ensures holds { result.buffer.now ≡ buffer.old }
-        ensures lent { result.buffer.ghost_name ≡ buffer.entry.ghost_name }
-    {
-        SliceMemory { buffer }
+// Beside Vec<u8>'s: one for both needs one more trait, which lends a slice, and is no plainer.
+impl<'a> Buffer for &'a mut [u8] {
+    ghost all = { λ b. b.now };
+
+    ghost loan = { λ b. b.ghost_name ∷ [] };
+
+    fn count(&self) -> u64 {
+        count(self)
+    }
+
+    fn byte(&self, place: u64) -> u8 {
+        self[place as usize]
+    }
+
+    fn set_byte(&mut self, place: u64, byte: u8) {
+        self[place as usize] = byte;
     }
 }
 
-impl<'a> Memory for SliceMemory<'a> {
-    ghost bytes = { λ m. front m.buffer.now };
-
-    ghost beyond = { λ m. m.buffer.ghost_name ∷ rest m.buffer.now };
-
-    fn len(&self) -> u64 {
-        buffer::size(self.buffer)
-    }
-
-    fn read(&self, place: u64) -> Option<u8> {
-        buffer::get(self.buffer, place)
-    }
-
-    fn write(&mut self, place: u64, byte: u8) -> Option<()> {
-        buffer::put(self.buffer, place, byte)
-    }
+// The type of a slice says that its bytes are small; that of a &mut to it does not.
+fn count(bytes: &[u8]) -> u64
+    ensures value { result ≡ length bytes.now }
+    ensures small { AllBytes bytes.now }
+{
+    bytes.len() as u64
 }
 
 // Puts a byte into a lent buffer by way of a memory: what the lender learns of it.

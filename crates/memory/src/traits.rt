@@ -1,5 +1,6 @@
 // What a memory means to the code above it: a list of bytes.
-ghost use Rattle.std.specs.Prelude.{◌≡◌, ℕ, ◌^◌, ◌<◌, ◌≤◌, List, length, is_some, nat_lt, slice_index, slice_set};
+ghost use Rattle.memory.specs.Bytes.{AllBytes};
+ghost use Rattle.std.specs.Prelude.{◌≡◌, ℕ, ◌^◌, ◌≤◌, List, length, is_some, nat_lt, slice_set};
 ghost use Rattle.std.specs.List.{slice_get};
 
 // No memory has more bytes than this.
@@ -16,7 +17,7 @@ pub trait Memory {
     fn len(&self) -> u64
         ensures value { result ≡ length (bytes self.now) }
         ensures bounded { result ≤ 2 ^ 34 }
-        ensures small { (k : ℕ) → slice_index (bytes self.now) k < 256 };
+        ensures small { AllBytes (bytes self.now) };
 
     // The byte at a place, or none past the end.
     fn read(&self, place: u64) -> Option<u8>

@@ -1,13 +1,15 @@
 -- which accesses the plain machine carries out, and which bytes they touch
-use Rattle.std.proofs.Common.{◌≡◌, ℕ, zero, suc, pred, ◌+◌, ◌<◌, ◌≤◌, max, Bool, true, false, cond, not, ◌&&◌, eqb, leb, List, length, get_or, Some, None, Option, refl, ap, inl, inr, arith}
+use Rattle.std.proofs.Common.{◌≡◌, ℕ, zero, suc, pred, ◌+◌, ◌<◌, ◌≤◌, max, Bool, true, false, cond, ◌&&◌, eqb, leb, List, length, get_or, Some, None, Option, refl, ap, inl, inr, arith, Ok, Err}
 use lib.Seq.{length-sets, sets}
-use Rattle.std.proofs.lemmas.Bool.{and_from, and_parts, both_ways, cases_lt, eqb-false, eqb-true, le-leb, leb-true, ne_eqb, not_from_false, not-true, or_cases, or_left, or_right}
+use Rattle.std.proofs.lemmas.Bool.{and_from, and_parts, cases_lt, eqb-true, le-leb, leb-true, or_cases, or_left, or_right}
+use Rattle.bank.specs.Verdicts.{is_size}
+use Rattle.std.proofs.lemmas.Bool.Decides.{nat_tests}
 use Rattle.monitor.specs.Bytes.{accessed, low_bytes, stored}
 use Rattle.monitor.specs.Content.{cause_of}
 use Rattle.monitor.specs.Layout.{common_first, common_past, os_entry}
 use Rattle.monitor.specs.Roll.{Belongs, Holds, May, Roll, apart, apart_below}
 use Rattle.monitor.specs.Slots.{InRange, ranged}
-use Rattle.monitor.specs.declared.answer.Answer.TheVariants.{Done, Fault}
+use Rattle.monitor.specs.declared.answer.Denial.TheVariants.{Fault}
 use Rattle.monitor.specs.declared.answer.Layer.TheVariants.{Protection, Memory}
 use Rattle.monitor.specs.declared.slot.Party.{Party}
 use Rattle.monitor.specs.declared.slot.Party.TheVariants.{Os, Enclave}
@@ -16,24 +18,22 @@ use Rattle.monitor.proofs.Plain.{common, covers, permits, permits_turn, plain_ac
 use Rattle.monitor.proofs.Rolls.{clear_in}
 use Rattle.monitor.proofs.Sound.{Sound}
 
+pub size_pos : (n : ℕ) → is_size n ≡ true → 0 < n
+size_pos n h = grind (arith, nat_tests)
+
 -- From permission to what belongs to whom.
 
 covers_in : (o : Option (ℕ × ℕ)) (a t p : ℕ) → covers o a t ≡ true → a ≤ p → p < t → InRange o p
-covers_in None a t p h l m = absurd (both_ways false refl h)
-covers_in (Some r) a t p h l m =
-    let w = and_parts (leb r.0 a) (leb t r.1) h in
-    let x = leb-true r.0 a w.0 in let y = leb-true t r.1 w.1 in omega arith
+covers_in None a t p h l m = cc
+covers_in (Some r) a t p h l m = grind (arith, nat_tests)
 
 turn_belongs : (r : Roll) (w : Party) (a t p : ℕ) → Sound r → permits_turn r w a t ≡ true → t ≤ r.size → a ≤ p → p < t → Belongs r w p
 turn_belongs r Os a t p s h z l m =
     let w = clear_in r a t s h in let b = w.0 in (omega arith, omega arith, λ i k. w.1 i p k l m)
 turn_belongs r (Enclave e) a t p s h z l m = covers_in (ranged (r.slot e)) a t p h l m
 
-common_parts : (kind a t : ℕ) → common kind a t ≡ true → (kind ≡ 2 → ⊥) × (common_first ≤ a) × (t ≤ common_past)
-common_parts kind a t h =
-    let w = and_parts (not (eqb kind 2)) (leb common_first a && leb t common_past) h in
-    let v = and_parts (leb common_first a) (leb t common_past) w.1 in
-    (eqb-false kind 2 (not-true (eqb kind 2) w.0), leb-true common_first a v.0, leb-true t common_past v.1)
+pub common_parts : (kind a t : ℕ) → common kind a t ≡ true → (kind ≡ 2 → ⊥) × (common_first ≤ a) × (t ≤ common_past)
+common_parts kind a t h = (λ e. grind (arith, nat_tests), grind (arith, nat_tests), grind (arith, nat_tests))
 
 pub permits_may : (r : Roll) (kind a n : ℕ) → Sound r → permits r kind a (a + n) ≡ true → a + n ≤ r.size → May r kind a n
 unfolding permits
@@ -50,7 +50,7 @@ in_covers None a n z h = absurd (h a (omega arith) (omega arith))
 in_covers (Some r) a n z h =
     let x = h a (omega arith) (omega arith) in
     let y = h (a + pred n) (omega arith) (omega arith) in
-    and_from (leb r.0 a) (leb (a + n) r.1) (le-leb r.0 a (omega arith)) (le-leb (a + n) r.1 (omega arith))
+    grind (arith, nat_tests)
 
 in_apart : (o : Option (ℕ × ℕ)) (a n : ℕ) → 0 < n → ((f t : ℕ) → o ≡ Some (f, t) → f < t)
     → ((p : ℕ) → a ≤ p → p < a + n → InRange o p → ⊥) → apart o a (a + n) ≡ true
@@ -61,9 +61,9 @@ in_apart (Some r) a n z k h =
       | inl l ↦
           elim (cases_lt a r.1) [
             | inl m ↦ absurd (h (max a r.0) (omega arith) (omega arith) (omega arith))
-            | inr m ↦ or_right (leb (a + n) r.0) (leb r.1 a) (le-leb r.1 a m)
+            | inr m ↦ grind (arith, nat_tests)
           ]
-      | inr l ↦ or_left (leb (a + n) r.0) (leb r.1 a) (le-leb (a + n) r.0 l)
+      | inr l ↦ grind (arith, nat_tests)
     ]
 
 pub in_apart_below : (r : Roll) (a n m : ℕ) → Sound r → 0 < n → ((p : ℕ) → a ≤ p → p < a + n → (i : ℕ) → Holds r i p → ⊥)
@@ -93,12 +93,9 @@ may_permits r kind a n s z b (inl h) =
     let w = belongs_turn r r.turn a n s z h in
     (or_right (common kind a (a + n)) (permits_turn r r.turn a (a + n)) w.0, w.1)
 may_permits r kind a n s z b (inr h) =
-    let l = h.1 in let m = h.2 in (
-      or_left (common kind a (a + n)) (permits_turn r r.turn a (a + n))
-          (and_from (not (eqb kind 2)) (leb common_first a && leb (a + n) common_past) (not_from_false (eqb kind 2) (ne_eqb kind 2 h.0))
-          (and_from (leb common_first a) (leb (a + n) common_past) (le-leb common_first a l) (le-leb (a + n) common_past m))),
-      omega arith,
-    )
+    let ne = h.0 in let l = h.1 in let m = h.2 in
+    let y : common kind a (a + n) ≡ true = grind (arith, nat_tests) in
+    (or_left (common kind a (a + n)) (permits_turn r r.turn a (a + n)) y, omega arith)
 
 -- A store touches what belongs to the running party, and nothing else.
 
@@ -143,13 +140,13 @@ unfolding plain_access_answer
 access_same r q xs ys kind a n h k g = rw (← h) (go (permits r kind a (a + n)) refl)
   where
     inner : (b : Bool) → permits r kind a (a + n) ≡ true → leb (a + n) (length xs) ≡ b
-        → cond b (Done (accessed xs kind a n)) (Fault Memory (cause_of kind)) ≡ cond b (Done (accessed ys kind a n)) (Fault Memory (cause_of kind))
-    inner true z w = ap (λ x. Done (cond (eqb kind 2) 0 x)) (number_agree xs ys a n (g z w))
+        → cond b (Ok (accessed xs kind a n)) (Err (Fault Memory (cause_of kind))) ≡ cond b (Ok (accessed ys kind a n)) (Err (Fault Memory (cause_of kind)))
+    inner true z w = ap (λ x. Ok (cond (eqb kind 2) 0 x)) (number_agree xs ys a n (g z w))
     inner false z w = refl
 
     go : (b : Bool) → permits r kind a (a + n) ≡ b
-        → cond b (cond (leb (a + n) (length xs)) (Done (accessed xs kind a n)) (Fault Memory (cause_of kind))) (Fault Protection (cause_of kind))
-        ≡ cond b (cond (leb (a + n) (length ys)) (Done (accessed ys kind a n)) (Fault Memory (cause_of kind))) (Fault Protection (cause_of kind))
+        → cond b (cond (leb (a + n) (length xs)) (Ok (accessed xs kind a n)) (Err (Fault Memory (cause_of kind)))) (Err (Fault Protection (cause_of kind)))
+        ≡ cond b (cond (leb (a + n) (length ys)) (Ok (accessed ys kind a n)) (Err (Fault Memory (cause_of kind)))) (Err (Fault Protection (cause_of kind)))
     go true z = rw (← k z) (inner (leb (a + n) (length xs)) z refl)
     go false z = refl
 

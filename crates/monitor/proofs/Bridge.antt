@@ -1,12 +1,11 @@
 -- the machine over its bank follows the plain machine, and so is closed off
-use Rattle.std.proofs.Common.{◌≡◌, ℕ, zero, suc, ◌+◌, ◌-◌, ◌*◌, ◌/◌, ◌^◌, ◌<◌, ◌≤◌, Bool, true, false, cond, ◌&&◌, eqb, leb, List, [], ◌∷◌, length, set, replicate, Some, None, Ok, Err, Option, Result, sym, refl, ap, ◌∙◌, subst, ap₂, inl, inr, arith, length-set, get_or-set_other, get_or-set_same}
+use Rattle.std.proofs.Common.{◌≡◌, ℕ, zero, suc, ◌+◌, ◌-◌, ◌*◌, ◌/◌, ◌^◌, ◌<◌, ◌≤◌, Bool, true, false, cond, ◌&&◌, eqb, leb, List, [], ◌∷◌, length, set, replicate, Some, None, Err, Option, Result, sym, refl, ap, ◌∙◌, subst, ap₂, inl, inr, arith, length-set, get_or-set_other, get_or-set_same}
 use mathlib.Core.Path.{fun_ext}
 use lib.ListN.{get_or-replicate, get_or-eq_default}
 use lib.Seq.{sets, length-sets}
-use Rattle.std.proofs.lemmas.Bool.{and_parts, both_ways, cases_Bool, cases_eq, cases_lt, eq-eqb, leb-true, ne_eqb, not-true}
+use Rattle.std.proofs.lemmas.Bool.{cases_Bool, cases_eq, cases_lt, eq-eqb, leb-true, ne_eqb, not-true}
 use Rattle.std.proofs.lemmas.Bool.Decides.{nat_tests}
 use Rattle.refusals.specs.Questions.{ruled}
-use Rattle.refusals.specs.declared.Refusal.{Refusal}
 use Rattle.bank.specs.Clean.{Clean, is_clean}
 use Rattle.bank.specs.Content.{count, entry_of, is_locked, put_word, stored_byte, zero_entry}
 use Rattle.bank.specs.Ranges.{end}
@@ -33,11 +32,12 @@ use Rattle.monitor.specs.Content.{
   wiped,
   wiped_slot,
 }
-use Rattle.monitor.specs.Layout.{first_slot, last_slot, opened, os_entry, shut, starts}
-use Rattle.monitor.specs.Roll.{Accepted, Roll, accept, halted, is_slot, judges, next, only, put, questions, runs_in, start}
+use Rattle.monitor.specs.Layout.{opened, os_entry, shut, starts}
+use Rattle.monitor.specs.Roll.{Accepted, Roll, accept, halted, judges, next, only, put, questions, runs_in, start}
 use Rattle.monitor.specs.Slots.{InRange, is_free, is_running, is_unfinished, moved, os_runs, ranged, restaged}
 use Rattle.monitor.specs.Theorem.{ClosedOff, Unseen, ran}
-use Rattle.monitor.specs.declared.answer.Answer.TheVariants.{Refused}
+use Rattle.monitor.specs.declared.answer.Denial.{Denial}
+use Rattle.monitor.specs.declared.answer.Denial.TheVariants.{Refused}
 use Rattle.monitor.specs.declared.call.Call.{Call}
 use Rattle.monitor.specs.declared.call.Call.TheVariants.{Create, Enter, Pause, Finish, Destroy, Access, Register}
 use Rattle.monitor.specs.declared.slot.Event.{Event}
@@ -46,16 +46,16 @@ use Rattle.monitor.specs.declared.slot.Party.{Party}
 use Rattle.monitor.specs.declared.slot.Party.TheVariants.{Os, Enclave}
 use Rattle.monitor.specs.declared.slot.Slot.{Slot}
 use Rattle.monitor.specs.declared.slot.Slot.TheVariants.{Free, Fresh, Running, Stopped, Finished}
-use Rattle.monitor.proofs.Held.{Held, entry, rank, slot_entry, system_entry}
+use Rattle.monitor.proofs.Held.{But, Held, entry, rank, slot_entry, system_entry}
 use Rattle.monitor.proofs.Plain.{accepted_answer, accepted_bytes, plain_after, plain_answer, wipe}
 use Rattle.monitor.proofs.Registers.{address_is, clean_word, configure_is}
-use Rattle.monitor.proofs.Rolls.{AllYes, accepted_starts, all_yes, next_size, next_sound, os_not, put_other, put_same, restaged_range, start_sound}
+use Rattle.monitor.proofs.Rolls.{AllYes, accepted_starts, all_yes, next_size, next_sound, os_not, put_other, put_same, restaged_range, ruled_cases, ruled_pair, slot_number, start_sound}
 use Rattle.monitor.proofs.Runs.{at}
 use Rattle.monitor.proofs.Sound.{Sound}
 use Rattle.monitor.proofs.Steps.{length_wipe}
 use Rattle.monitor.proofs.Transfer.{Follows, transfer, transfer_unseen}
 use Rattle.monitor.proofs.Verdicts.{answer_same, bytes_same, top_verdict}
-use Rattle.monitor.proofs.Writes.{But, but_held, byte_open, byte_word, clean_but, held_but, last_set, new_held, slot_set, unlocked, word_byte}
+use Rattle.monitor.proofs.Writes.{byte_open, byte_word, clean_but, last_set, new_held, slot_set, unlocked, word_byte}
 
 -- a machine whose bank and privilege are what its own roll says
 pub record Good (m : Content) : Type 0 where
@@ -81,24 +81,17 @@ slots_put l s x y h q = fun_ext (λ i.
 -- the machine's table of stages and events says what the roll says
 moved_create : (x : Slot) (g : ℕ × ℕ) → is_free x ≡ true → moved x (Creates g) ≡ Fresh g
 moved_create Free g h = refl
-moved_create (Fresh _) g h = absurd (both_ways false refl h)
-moved_create (Running _) g h = absurd (both_ways false refl h)
-moved_create (Stopped _) g h = absurd (both_ways false refl h)
-moved_create (Finished _) g h = absurd (both_ways false refl h)
+moved_create _ g h = cc
 
 moved_enter : (x : Slot) → is_unfinished x ≡ true → is_running x ≡ false → moved x Enters ≡ restaged Running x
-moved_enter Free h k = absurd (both_ways false refl h)
 moved_enter (Fresh _) h k = refl
-moved_enter (Running _) h k = absurd (both_ways true k refl)
 moved_enter (Stopped _) h k = refl
-moved_enter (Finished _) h k = absurd (both_ways false refl h)
+moved_enter _ h k = cc
 
 moved_destroy : (x : Slot) → is_free x ≡ false → is_running x ≡ false → moved x Destroys ≡ Free
-moved_destroy Free h k = absurd (both_ways true h refl)
-moved_destroy (Fresh _) h k = refl
-moved_destroy (Running _) h k = absurd (both_ways true k refl)
-moved_destroy (Stopped _) h k = refl
-moved_destroy (Finished _) h k = refl
+moved_destroy Free h k = cc
+moved_destroy (Running _) h k = cc
+moved_destroy _ h k = refl
 
 -- pause and finish, each with the stage that it leads to
 record Halting (event : Event) (stage : ℕ × ℕ → Slot) : Type 0 where
@@ -112,32 +105,23 @@ finishes : Halting Finishes Finished
 finishes = record { keeps = λ g. refl; leads = λ g. refl }
 
 moved_halt : (event : Event) (stage : ℕ × ℕ → Slot) → Halting event stage → (x : Slot) → is_running x ≡ true → moved x event ≡ restaged stage x
-moved_halt event stage o Free h = absurd (both_ways false refl h)
-moved_halt event stage o (Fresh _) h = absurd (both_ways false refl h)
 moved_halt event stage o (Running g) h = o.leads g
-moved_halt event stage o (Stopped _) h = absurd (both_ways false refl h)
-moved_halt event stage o (Finished _) h = absurd (both_ways false refl h)
+moved_halt event stage o _ h = cc
 
 live : (x : Slot) → is_free x ≡ false → (g : ℕ × ℕ) × (ranged x ≡ Some g)
-live Free h = absurd (both_ways true h refl)
+live Free h = cc
 live (Fresh g) h = (g, refl)
 live (Running g) h = (g, refl)
 live (Stopped g) h = (g, refl)
 live (Finished g) h = (g, refl)
 
 running_live : (x : Slot) → is_running x ≡ true → is_free x ≡ false
-running_live Free h = absurd (both_ways false refl h)
-running_live (Fresh _) h = refl
-running_live (Running _) h = refl
-running_live (Stopped _) h = refl
-running_live (Finished _) h = refl
+running_live Free h = cc
+running_live _ h = refl
 
 os_party : (w : Party) → os_runs w ≡ true → w ≡ Os
 os_party Os h = refl
-os_party (Enclave e) h = absurd (both_ways false refl h)
-
-slot_number : (s : ℕ) → is_slot s ≡ true → (2 ≤ s) × (s < 15)
-slot_number s h = let w = and_parts (leb first_slot s) (leb s last_slot) h in let a = leb-true first_slot s w.0 in let b = leb-true s last_slot w.1 in omega arith
+os_party (Enclave e) h = cc
 
 -- while the operating system runs no slot is at the stage of running
 at_rest : (r : Roll) (i : ℕ) → Sound r → os_runs r.turn ≡ true → is_running (r.slot i) ≡ false
@@ -174,30 +158,23 @@ module _ (m : Content) (g : Good m) where
       ∙ ap (λ n. sets m.bytes x.0 (replicate n 0)) q
 
   reply_is : (c : Call) → AllYes (questions (roll_of m) c) → reply m c ≡ accepted_answer (roll_of m) m.bytes c
-  reply_is (Create s b k) y = refl
-  reply_is (Enter s) y = refl
-  reply_is Pause y = refl
-  reply_is (Finish w) y = refl
-  reply_is (Destroy s) y = refl
   reply_is (Access kind a n v) y =
       ap (λ p. access_answer (verdict_of m.bank p kind a n) m.bytes kind a n) g.ranked
       ∙ answer_same m.bank (roll_of m) g.sound g.held g.small kind a n (leb-true kind 2 y.1.0) y.1.1.0 (leb-true (a + n) end y.1.1.1.0) m.bytes
-  reply_is (Register n w) y = refl
+  reply_is _ y = refl
 
   halts_bytes : (event : Event) (w : Party) → (halts event m w).bytes ≡ m.bytes
   halts_bytes event Os = refl
   halts_bytes event (Enclave e) = refl
 
   act_bytes : (c : Call) → AllYes (questions (roll_of m) c) → (act m c).bytes ≡ accepted_bytes (roll_of m) m.bytes c
-  act_bytes (Create s b k) y = refl
-  act_bytes (Enter s) y = refl
   act_bytes Pause y = halts_bytes Pauses m.party
   act_bytes (Finish w) y = halts_bytes Finishes m.party
   act_bytes (Destroy s) y = wiped_is s (ranged (slot_of m.slots s)) refl
   act_bytes (Access kind a n v) y =
       ap (λ p. access_bytes (verdict_of m.bank p kind a n) m.bytes kind a n v) g.ranked
       ∙ bytes_same m.bank (roll_of m) g.sound g.held g.small kind a n (leb-true kind 2 y.1.0) y.1.1.0 (leb-true (a + n) end y.1.1.1.0) m.bytes v
-  act_bytes (Register n w) y = refl
+  act_bytes _ y = refl
 
 -- The bank.
 
@@ -238,7 +215,7 @@ module _ (m : Content) (g : Good m) where
       ∙ ap (λ y. slot_entry v i (ranged y)) (sym (get_or-set_other m.slots s i x Free ne)))
 
   base : But (system_entry m.party) m.bank (roll_of m)
-  base = held_but m.bank (roll_of m) g.held
+  base = g.held
 
   clean : Clean m.bank
   clean = clean_but (system_entry m.party) m.bank (roll_of m) base (system_clean m.party)
@@ -269,17 +246,15 @@ module _ (m : Content) (g : Good m) where
       let q : entry shut w ≡ slot_entry m.party s (ranged x) =
       ap (entry shut) word_is ∙ ap (λ v. slot_entry v s (Some (b, b + 2 ^ k))) (sym os) ∙ ap (λ y. slot_entry m.party s (ranged y)) (sym e) in
       subst (λ l. Held l (roll_of (act m (Create s b k)))) (sym (create_bank s w n.0 n.1))
-      (but_held (system_entry m.party) (set m.bank s (entry shut w)) (roll_of (act m (Create s b k))) refl
-      (set_slot (system_entry m.party) (entry shut w) m.bank s x m.party base n.0 n.1 q (λ i ne. refl)))
+      (set_slot (system_entry m.party) (entry shut w) m.bank s x m.party base n.0 n.1 q (λ i ne. refl))
     where
       w : ℕ
       w = b / 4 + 2 ^ (k - 3) - 1
 
       word_is : w ≡ b / 4 + (b + 2 ^ k - b) / 8 - 1
       word_is =
-          let exponent = and_parts (leb 12 k) (leb k 30) y.1.1.1.1.0 in
-          let low = leb-true 12 k exponent.0 in
-          let high = leb-true k 30 exponent.1 in
+          let e = y.1.1.1.1.0 in
+          let exponent : (12 ≤ k) × (k ≤ 30) = grind (arith, nat_tests) in
           let z = size_steps k (omega arith) (omega arith) in
           omega arith
 
@@ -304,7 +279,7 @@ module _ (m : Content) (g : Good m) where
       → Held (configure (configure m.bank s x) os_entry y) (record { size = length m.bytes; slot = slot_of (set m.slots s c); turn = v })
   hand_over s x y c v hx hy a b f e p q k =
       subst (λ l. Held l r) (sym bank_is)
-      (but_held last (set l os_entry last) r
+      (subst (λ z. But z (set l os_entry last) r)
       (ap (λ (d : Entry). entry (stored_byte y) d.word) one.last ∙ ap (entry (stored_byte y)) (system_word m.party) ∙ q)
       (last_set (system_entry m.party) last l r one))
     where
@@ -321,7 +296,7 @@ module _ (m : Content) (g : Good m) where
       last = entry (stored_byte y) (entry_of l os_entry).word
 
       go : (d : Option (ℕ × ℕ)) → ranged (slot_of m.slots s) ≡ d → entry (stored_byte x) (slot_entry m.party s d).word ≡ slot_entry v s d
-      go None h = let z = live (slot_of m.slots s) f in absurd (let w : ◌≡◌ {A = ℕ} 0 1 = cc (sym h ∙ z.1) in omega arith)
+      go None h = let z = live (slot_of m.slots s) f in cc (sym h ∙ z.1)
       go (Some d) h = ap (λ i. entry i (d.0 / 4 + (d.1 - d.0) / 8 - 1)) p
 
       one : But (system_entry m.party) l r
@@ -429,36 +404,26 @@ module _ (m : Content) (h : Sturdy m) (c : Call) where
 
   answer_is : answer m c ≡ plain_answer (roll_of m) m.bytes c
   unfolding answer plain_answer
-  answer_is = go (judges (roll_of m) c) refl
-    where
-      go : (x : Result (Unit {0}) Refusal) → judges (roll_of m) c ≡ x → ruled x (reply m c) Refused ≡ ruled x (accepted_answer (roll_of m) m.bytes c) Refused
-      go (Ok _) q = let y = accepted q in reply_is m y.0 c y.1
-      go (Err e) q = refl
+  answer_is =
+      ruled_pair (λ (a b : Result ℕ Denial). a ≡ b) (judges (roll_of m) c) (reply m c) (accepted_answer (roll_of m) m.bytes c)
+      (λ e. Err (Refused e)) (λ e. Err (Refused e)) (λ q. let y = accepted q in reply_is m y.0 c y.1) (λ _ _. refl)
 
   bytes_is : (after m c).bytes ≡ plain_after (roll_of m) m.bytes c
   unfolding after plain_after
-  bytes_is = go (judges (roll_of m) c) refl
-    where
-      go : (x : Result (Unit {0}) Refusal) → judges (roll_of m) c ≡ x
-          → (ruled x (act m c) (λ _. m)).bytes ≡ ruled x (accepted_bytes (roll_of m) m.bytes c) (λ _. m.bytes)
-      go (Ok _) q = let y = accepted q in act_bytes m y.0 c y.1
-      go (Err e) q = refl
+  bytes_is =
+      ruled_pair (λ (n : Content) (l : List ℕ). n.bytes ≡ l) (judges (roll_of m) c) (act m c) (accepted_bytes (roll_of m) m.bytes c)
+      (λ _. m) (λ _. m.bytes) (λ q. let y = accepted q in act_bytes m y.0 c y.1) (λ _ _. refl)
 
   roll_is : roll_of (after m c) ≡ next (roll_of m) c
   unfolding after next
-  roll_is = go (judges (roll_of m) c) refl
-    where
-      go : (x : Result (Unit {0}) Refusal) → judges (roll_of m) c ≡ x → roll_of (ruled x (act m c) (λ _. m)) ≡ ruled x (accept (roll_of m) c) (λ _. roll_of m)
-      go (Ok _) q = let y = accepted q in act_roll m y.0 c y.1
-      go (Err e) q = refl
+  roll_is =
+      ruled_pair (λ (n : Content) (r : Roll). roll_of n ≡ r) (judges (roll_of m) c) (act m c) (accept (roll_of m) c)
+      (λ _. m) (λ _. roll_of m) (λ q. let y = accepted q in act_roll m y.0 c y.1) (λ _ _. refl)
 
   after_fit : (g : Good m) → Fit m g (after m c)
   unfolding after
-  after_fit g = go (judges (roll_of m) c) refl
-    where
-      go : (x : Result (Unit {0}) Refusal) → judges (roll_of m) c ≡ x → Fit m g (ruled x (act m c) (λ _. m))
-      go (Ok _) q = act_fit m g c (all_yes (questions (roll_of m) c) q)
-      go (Err e) q = self m g
+  after_fit g =
+      ruled_cases (Fit m g) (judges (roll_of m) c) (act m c) (λ _. m) (λ q. act_fit m g c (all_yes (questions (roll_of m) c) q)) (λ _ _. self m g)
 
   pub after_good : Sturdy (after m c)
   after_good t =

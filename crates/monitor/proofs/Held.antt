@@ -26,9 +26,14 @@ abbrev pub rank : Party → ℕ
 rank Os = supervisor
 rank (Enclave _) = user
 
-pub record Held (l : List Entry) (r : Roll) : Type 0 where
+-- the bank as it should be, but for the last entry, which is z
+pub record But (z : Entry) (l : List Entry) (r : Roll) : Type 0 where
   pub len : length l ≡ count
   pub monitor : entry_of l 0 ≡ entry shut 0x1FF
   pub shared : entry_of l 1 ≡ entry 0x9D 0x5FF
   pub slot : (i : ℕ) → first_slot ≤ i → i < os_entry → entry_of l i ≡ slot_entry r.turn i (ranged (r.slot i))
-  pub last : entry_of l os_entry ≡ system_entry r.turn
+  pub last : entry_of l os_entry ≡ z
+
+-- the bank as it should be
+abbrev pub Held : List Entry → Roll → Type 0
+Held l r = But (system_entry r.turn) l r

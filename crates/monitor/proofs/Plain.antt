@@ -1,5 +1,5 @@
 -- The plain machine, a step on the way of the proof: the roll itself decides protection.
-use Rattle.std.proofs.Common.{ℕ, ◌+◌, ◌-◌, Bool, false, cond, not, ◌&&◌, ◌||◌, eqb, leb, List, length, replicate, Some, None, Option}
+use Rattle.std.proofs.Common.{ℕ, ◌+◌, ◌-◌, Bool, false, cond, not, ◌&&◌, ◌||◌, eqb, leb, List, length, replicate, Some, None, Option, Ok, Err, Result}
 use lib.Seq.{sets}
 use Rattle.monitor.specs.Bytes.{accessed, stored}
 use Rattle.monitor.specs.Content.{cause_of}
@@ -7,11 +7,11 @@ use Rattle.monitor.specs.Layout.{common_first, common_past}
 use Rattle.monitor.specs.Roll.{Roll, clear, judges, next, start}
 use Rattle.monitor.specs.Slots.{ranged}
 use Rattle.monitor.specs.Theorem.{System}
-use Rattle.monitor.specs.declared.answer.Answer.{Answer}
-use Rattle.monitor.specs.declared.answer.Answer.TheVariants.{Done, Fault, Refused}
+use Rattle.monitor.specs.declared.answer.Denial.{Denial}
+use Rattle.monitor.specs.declared.answer.Denial.TheVariants.{Fault, Refused}
 use Rattle.monitor.specs.declared.answer.Layer.TheVariants.{Protection, Memory}
 use Rattle.monitor.specs.declared.call.Call.{Call}
-use Rattle.monitor.specs.declared.call.Call.TheVariants.{Create, Enter, Pause, Finish, Destroy, Access, Register}
+use Rattle.monitor.specs.declared.call.Call.TheVariants.{Finish, Destroy, Access}
 use Rattle.monitor.specs.declared.slot.Party.{Party}
 use Rattle.monitor.specs.declared.slot.Party.TheVariants.{Os, Enclave}
 use Rattle.refusals.specs.Questions.{ruled}
@@ -35,39 +35,31 @@ abbrev pub wipe : Option (ℕ × ℕ) → List ℕ → List ℕ
 wipe None bs = bs
 wipe (Some r) bs = sets bs r.0 (replicate (r.1 - r.0) 0)
 
-unfoldable pub plain_access_answer : Roll → List ℕ → ℕ → ℕ → ℕ → Answer
+unfoldable pub plain_access_answer : Roll → List ℕ → ℕ → ℕ → ℕ → Result ℕ Denial
 plain_access_answer r bs kind a n =
     cond (permits r kind a (a + n))
-    (cond (leb (a + n) (length bs)) (Done (accessed bs kind a n)) (Fault Memory (cause_of kind)))
-    (Fault Protection (cause_of kind))
+    (cond (leb (a + n) (length bs)) (Ok (accessed bs kind a n)) (Err (Fault Memory (cause_of kind))))
+    (Err (Fault Protection (cause_of kind)))
 
 unfoldable pub plain_access_bytes : Roll → List ℕ → ℕ → ℕ → ℕ → ℕ → List ℕ
 plain_access_bytes r bs kind a n v = cond (permits r kind a (a + n) && leb (a + n) (length bs)) (stored bs kind a n v) bs
 
-abbrev pub accepted_answer : Roll → List ℕ → Call → Answer
-accepted_answer r bs (Create s b k) = Done 0
-accepted_answer r bs (Enter s) = Done 0
-accepted_answer r bs Pause = Done 0
-accepted_answer r bs (Finish w) = Done w
-accepted_answer r bs (Destroy s) = Done 0
+abbrev pub accepted_answer : Roll → List ℕ → Call → Result ℕ Denial
+accepted_answer r bs (Finish w) = Ok w
 accepted_answer r bs (Access k a n v) = plain_access_answer r bs k a n
-accepted_answer r bs (Register n w) = Done 0
+accepted_answer r bs _ = Ok 0
 
 abbrev pub accepted_bytes : Roll → List ℕ → Call → List ℕ
-accepted_bytes r bs (Create s b k) = bs
-accepted_bytes r bs (Enter s) = bs
-accepted_bytes r bs Pause = bs
-accepted_bytes r bs (Finish w) = bs
 accepted_bytes r bs (Destroy s) = wipe (ranged (r.slot s)) bs
 accepted_bytes r bs (Access k a n v) = plain_access_bytes r bs k a n v
-accepted_bytes r bs (Register n w) = bs
+accepted_bytes r bs _ = bs
 
 pub record Simple : Type 0 where
   pub roll : Roll
   pub bytes : List ℕ
 
-unfoldable pub plain_answer : Roll → List ℕ → Call → Answer
-plain_answer r bs c = ruled (judges r c) (accepted_answer r bs c) Refused
+unfoldable pub plain_answer : Roll → List ℕ → Call → Result ℕ Denial
+plain_answer r bs c = ruled (judges r c) (accepted_answer r bs c) (λ e. Err (Refused e))
 
 unfoldable pub plain_after : Roll → List ℕ → Call → List ℕ
 plain_after r bs c = ruled (judges r c) (accepted_bytes r bs c) (λ _. bs)

@@ -1,8 +1,8 @@
 -- the laws of the roll, proved
-use Rattle.std.proofs.Common.{◌≡◌, ℕ, pred, ◌+◌, ◌%◌, ◌^◌, ◌<◌, ◌≤◌, Bool, true, false, not, ◌&&◌, leb, List, [], ◌∷◌, Some, Ok, Err, Result, sym, refl, ap, ◌∙◌, subst, arith, pow_pos}
+use Rattle.std.proofs.Common.{◌≡◌, ℕ, pred, ◌+◌, ◌%◌, ◌^◌, ◌<◌, ◌≤◌, Bool, true, false, not, ◌&&◌, leb, List, [], ◌∷◌, Some, Err, sym, refl, ap, ◌∙◌, subst, arith, pow_pos}
 use Rattle.std.proofs.lemmas.Bool.{and_from, both_ways, cond-false, eq-eqb, le-leb, not_from_false}
+use Rattle.std.proofs.lemmas.Bool.Decides.{nat_tests}
 use Rattle.refusals.specs.Questions.{ruled}
-use Rattle.refusals.specs.declared.Refusal.{Refusal}
 use Rattle.refusals.specs.declared.Refusal.TheVariants.{NotStarted}
 use Rattle.monitor.specs.Laws.{RollLaws}
 use Rattle.monitor.specs.Layout.{common_past, first_slot, last_slot, os_entry, starts}
@@ -10,13 +10,13 @@ use Rattle.monitor.specs.Roll.{Accepted, Holds, Roll, accept, apart_below, clear
 use Rattle.monitor.specs.Slots.{is_free, is_running, is_unfinished, os_runs, ranged, restaged}
 use Rattle.monitor.specs.Theorem.{Lasts}
 use Rattle.monitor.specs.declared.call.Call.{Call}
-use Rattle.monitor.specs.declared.call.Call.TheVariants.{Create, Enter, Pause, Finish, Destroy, Access, Register}
+use Rattle.monitor.specs.declared.call.Call.TheVariants.{Create, Enter, Pause, Finish, Destroy, Register}
 use Rattle.monitor.specs.declared.slot.Party.{Party}
 use Rattle.monitor.specs.declared.slot.Party.TheVariants.{Os, Enclave}
 use Rattle.monitor.specs.declared.slot.Slot.{Slot}
-use Rattle.monitor.specs.declared.slot.Slot.TheVariants.{Free, Fresh, Running, Stopped, Finished}
+use Rattle.monitor.specs.declared.slot.Slot.TheVariants.{Free, Stopped, Finished}
 use Rattle.monitor.proofs.Access.{in_apart_below}
-use Rattle.monitor.proofs.Rolls.{AllYes, all_yes, next_sound, put_other, put_same, ranged_in, rolled_size, rolled_sound, start_sound, yes_all}
+use Rattle.monitor.proofs.Rolls.{AllYes, all_yes, next_cases, next_sound, put_other, put_same, inside, rolled_size, rolled_sound, start_sound, yes_all}
 use Rattle.monitor.proofs.Sound.{Sound}
 
 -- A slot that finished stays so until it is destroyed.
@@ -27,24 +27,16 @@ Over s = (is_free s ≡ false) × (is_unfinished s ≡ false)
 
 running_unfinished : (s : Slot) → is_running s ≡ true → is_unfinished s ≡ true
 running_unfinished Free h = h
-running_unfinished (Fresh _) h = refl
-running_unfinished (Running _) h = refl
-running_unfinished (Stopped _) h = refl
-running_unfinished (Finished _) h = absurd (both_ways false refl h)
+running_unfinished (Finished _) h = cc
+running_unfinished _ h = refl
 
 unfinished_live : (s : Slot) → is_unfinished s ≡ true → is_free s ≡ false
-unfinished_live Free h = absurd (both_ways false refl h)
-unfinished_live (Fresh _) h = refl
-unfinished_live (Running _) h = refl
-unfinished_live (Stopped _) h = refl
-unfinished_live (Finished _) h = refl
+unfinished_live Free h = cc
+unfinished_live _ h = refl
 
 finished_over : (s : Slot) → is_free s ≡ false → Over (restaged Finished s)
-finished_over Free h = absurd (both_ways true h refl)
-finished_over (Fresh _) h = (refl, refl)
-finished_over (Running _) h = (refl, refl)
-finished_over (Stopped _) h = (refl, refl)
-finished_over (Finished _) h = (refl, refl)
+finished_over Free h = cc
+finished_over _ h = (refl, refl)
 
 put_over : (f : ℕ → Slot) (i : ℕ) (x : Slot) (e : ℕ) → (e ≡ i → ⊥) → Over (f e) → Over (put f i x e)
 put_over f i x e ne h = subst Over (sym (put_other f i x e ne)) h
@@ -66,16 +58,11 @@ accept_over r (Enter s) e o y d h = put_over r.slot s _ e (apart_from r.slot is_
 accept_over r Pause e o y d h = halted_over Stopped r r.turn e o refl h
 accept_over r (Finish w) e o y d h = halted_over Finished r r.turn e o refl h
 accept_over r (Destroy s) e o y d h = put_over r.slot s Free e (λ q. d (ap Destroy (sym q))) h
-accept_over r (Access k a n v) e o y d h = h
-accept_over r (Register n w) e o y d h = h
+accept_over r _ e o y d h = h
 
 next_over : (r : Roll) (c : Call) (e : ℕ) → Sound r → (c ≡ Destroy e → judges r c ≡ Accepted → ⊥) → Over (r.slot e) → Over ((next r c).slot e)
-unfolding next
-next_over r c e o d h = go (judges r c) refl
-  where
-    go : (x : Result (Unit {0}) Refusal) → judges r c ≡ x → Over ((ruled x (accept r c) (λ _. r)).slot e)
-    go (Ok _) q = accept_over r c e o (all_yes (questions r c) q) (λ z. d z q) h
-    go (Err n) q = h
+next_over r c e o d h =
+    next_cases (λ (q : Roll). Over (q.slot e)) r c (λ q. accept_over r c e o (all_yes (questions r c) q) (λ z. d z q) h) h
 
 rolled_over : (r : Roll) (ds : List Call) (e : ℕ) → Sound r → Lasts e r ds → Over (r.slot e) → Over ((rolled r ds).slot e)
 rolled_over r [] e o l h = h
@@ -98,8 +85,8 @@ module _ (r : Roll) (sound : Sound r) where
   range_shape i f t h =
       let some = sound.some i f t h in
       let shape = sound.shape i f t h in
-      let first = sound.place i f (ranged_in (ranged (r.slot i)) f t f h (omega arith) some) in
-      let last = sound.place i (pred t) (ranged_in (ranged (r.slot i)) f t (pred t) h (omega arith) (omega arith)) in
+      let first = sound.place i f (inside r i f t f h (omega arith) some) in
+      let last = sound.place i (pred t) (inside r i f t (pred t) h (omega arith) (omega arith)) in
       (shape.from_first, omega arith, first.1, omega arith, (shape.power, shape.twelve, shape.thirty, shape.to, shape.aligned))
 
   finished_shut : (ds : List Call) (e w : ℕ) → r.turn ≡ Enclave e → judges r (Finish w) ≡ Accepted → Lasts e (next r (Finish w)) ds
@@ -120,7 +107,7 @@ module _ (r : Roll) (sound : Sound r) where
 
   module _ (started : starts r.size ≡ true) where
     slot_number : (s : ℕ) → first_slot ≤ s → s ≤ last_slot → is_slot s ≡ true
-    slot_number s l m = and_from (leb first_slot s) (leb s last_slot) (le-leb first_slot s l) (le-leb s last_slot m)
+    slot_number s l m = grind (arith, nat_tests)
 
     creates : (s b k : ℕ) → r.turn ≡ Os → first_slot ≤ s → s ≤ last_slot → is_free (r.slot s) ≡ true
         → 12 ≤ k → k ≤ 30 → b % 2 ^ k ≡ 0 → b + 2 ^ k ≤ r.size → common_past ≤ b
@@ -129,11 +116,11 @@ module _ (r : Roll) (sound : Sound r) where
         let clear_of : clear r b (b + 2 ^ k) ≡ true
         = and_from (leb common_past b) (apart_below r.slot b (b + 2 ^ k) os_entry) (le-leb common_past b past)
         (in_apart_below r b (2 ^ k) os_entry sound (omega (arith, pow_pos k)) (λ p a z i h. apart i p h a z)) in
-        let power : (leb 12 k && leb k 30) ≡ true = and_from (leb 12 k) (leb k 30) (le-leb 12 k low) (le-leb k 30 high) in
+        let power : (leb 12 k && leb k 30) ≡ true = grind (arith, nat_tests) in
         let multiple = eq-eqb (b % 2 ^ k) 0 even in
-        let inside = le-leb (b + 2 ^ k) r.size fits in
+        let fits_in = le-leb (b + 2 ^ k) r.size fits in
         yes_all (questions r (Create s b k))
-        (started, (slot_number s l m, (ap os_runs t, (free, (power, (multiple, (inside, (clear_of, tt))))))))
+        (started, (slot_number s l m, (ap os_runs t, (free, (power, (multiple, (fits_in, (clear_of, tt))))))))
 
     enters : (s : ℕ) → r.turn ≡ Os → first_slot ≤ s → s ≤ last_slot → is_unfinished (r.slot s) ≡ true → judges r (Enter s) ≡ Accepted
     enters s t l m h =
@@ -157,13 +144,8 @@ hands_back_not r w t =
     )
 
 unstarted : (r : Roll) (c : Call) → starts r.size ≡ false → judges r c ≡ Err NotStarted
-unstarted r (Create s b k) h = cond-false (starts r.size) _ (Err NotStarted) h
-unstarted r (Enter s) h = cond-false (starts r.size) _ (Err NotStarted) h
 unstarted r Pause h = cond-false (starts r.size) _ (Err NotStarted) h
-unstarted r (Finish w) h = cond-false (starts r.size) _ (Err NotStarted) h
-unstarted r (Destroy s) h = cond-false (starts r.size) _ (Err NotStarted) h
-unstarted r (Access k a n v) h = cond-false (starts r.size) _ (Err NotStarted) h
-unstarted r (Register n w) h = cond-false (starts r.size) _ (Err NotStarted) h
+unstarted r _ h = cond-false (starts r.size) _ (Err NotStarted) h
 
 -- All of it.
 

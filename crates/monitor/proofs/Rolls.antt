@@ -1,14 +1,15 @@
 -- what calls make of the roll: every roll is sound, and a live slot keeps its range until it is destroyed
 use Rattle.std.proofs.Common.{◌≡◌, ℕ, zero, suc, ◌+◌, ◌%◌, ◌^◌, ◌<◌, ◌≤◌, Bool, true, false, cond, eqb, leb, ◌⊎◌, List, [], ◌∷◌, Some, None, Ok, Err, Option, Result, sym, refl, ap, ◌∙◌, subst, inl, inr, arith, pow_pos}
-use Rattle.bank.specs.Ranges.{end}
-use Rattle.std.proofs.lemmas.Bool.{and_parts, both_ways, cases_eq, cond-false, cond-true, eq-eqb, eqb-true, leb-true, ne_eqb, not-true, or_cases}
+use Rattle.std.proofs.lemmas.Bool.{and_parts, both_ways, cases_eq, cond-false, cond-true, eq-eqb, eqb-true, leb-true, ne_eqb, not-true}
+use Rattle.std.proofs.lemmas.Bool.Decides.{nat_tests}
+use Rattle.std.proofs.lemmas.Option.{some_pair_parts}
 use Rattle.refusals.specs.Questions.{ruled, ruling}
 use Rattle.refusals.specs.declared.Refusal.{Refusal}
-use Rattle.monitor.specs.Layout.{common_past, first_slot, last_slot, os_entry, starts}
-use Rattle.monitor.specs.Roll.{Accepted, Holds, Roll, accept, apart, apart_below, clear, halted, judges, next, put, questions, rolled, start}
+use Rattle.monitor.specs.Layout.{common_past, first_slot, os_entry, starts}
+use Rattle.monitor.specs.Roll.{Accepted, Holds, Roll, accept, apart, apart_below, clear, halted, is_slot, judges, next, put, questions, rolled, start}
 use Rattle.monitor.specs.Slots.{InRange, is_free, is_running, os_runs, ranged, restaged}
 use Rattle.monitor.specs.declared.call.Call.{Call}
-use Rattle.monitor.specs.declared.call.Call.TheVariants.{Create, Enter, Pause, Finish, Destroy, Access, Register}
+use Rattle.monitor.specs.declared.call.Call.TheVariants.{Create, Enter, Pause, Finish, Destroy}
 use Rattle.monitor.specs.declared.slot.Party.{Party}
 use Rattle.monitor.specs.declared.slot.Party.TheVariants.{Os, Enclave}
 use Rattle.monitor.specs.declared.slot.Slot.{Slot}
@@ -17,9 +18,6 @@ use Rattle.monitor.proofs.Sound.{Sound}
 
 -- Questions.
 
-pub never : (e : Refusal) → Err e ≡ Accepted → ⊥
-never e h = let z : ◌≡◌ {A = ℕ} 0 1 = cc in omega arith
-
 -- an accepted call had every question answered yes
 abbrev pub AllYes : List (Bool × Refusal) → Type 0
 AllYes [] = Unit {0}
@@ -27,7 +25,7 @@ AllYes (q ∷ qs) = (q.0 ≡ true) × AllYes qs
 
 yes_first : (b : Bool) (e : Refusal) (x : Result (Unit {0}) Refusal) → cond b x (Err e) ≡ Accepted → (b ≡ true) × (x ≡ Accepted)
 yes_first true e x h = (refl, h)
-yes_first false e x h = absurd (never e h)
+yes_first false e x h = cc
 
 pub all_yes : (qs : List (Bool × Refusal)) → ruling qs ≡ Accepted → AllYes qs
 all_yes [] h = tt
@@ -37,52 +35,60 @@ pub yes_all : (qs : List (Bool × Refusal)) → AllYes qs → ruling qs ≡ Acce
 yes_all [] y = refl
 yes_all (q ∷ qs) y = cond-true q.0 (ruling qs) (Err q.1) y.0 ∙ yes_all qs y.1
 
+-- what holds whether or not a call is accepted holds of what follows
+pub ruled_cases : {X : Type 0} (P : X → Type 0) (v : Result (Unit {0}) Refusal) (x : X) (f : Refusal → X)
+    → (v ≡ Accepted → P x) → ((e : Refusal) → v ≡ Err e → P (f e)) → P (ruled v x f)
+ruled_cases P (Ok _) x f accepted refused = accepted refl
+ruled_cases P (Err e) x f accepted refused = refused e refl
+
+-- so of two things that follow from one ruling
+pub ruled_pair : {X Y : Type 0} (R : X → Y → Type 0) (v : Result (Unit {0}) Refusal) (x : X) (y : Y) (f : Refusal → X) (g : Refusal → Y)
+    → (v ≡ Accepted → R x y) → ((e : Refusal) → v ≡ Err e → R (f e) (g e)) → R (ruled v x f) (ruled v y g)
+ruled_pair R (Ok _) x y f g accepted refused = accepted refl
+ruled_pair R (Err e) x y f g accepted refused = refused e refl
+
+-- so of the roll
+pub next_cases : (P : Roll → Type 0) (r : Roll) (c : Call) → (judges r c ≡ Accepted → P (accept r c)) → P r → P (next r c)
+unfolding next
+next_cases P r c accepted refused = ruled_cases P (judges r c) (accept r c) (λ _. r) accepted (λ _ _. refused)
+
 -- a memory that starts a machine has more than the two pages
 pub starts_big : (n : ℕ) → starts n ≡ true → 16384 ≤ n
-starts_big n h = go (leb 16384 n) refl h
-  where
-    go : (b : Bool) → leb 16384 n ≡ b → cond b (cond (leb n end) (eqb (n % 4096) 0) false) false ≡ true → 16384 ≤ n
-    go true e _ = leb-true 16384 n e
-    go false _ k = absurd (both_ways true (sym k) refl)
+starts_big n h = grind (arith, nat_tests)
 
 -- an accepted call finds a memory that starts a machine
 pub accepted_starts : (r : Roll) (c : Call) → judges r c ≡ Accepted → starts r.size ≡ true
-accepted_starts r (Create s b k) h = (all_yes (questions r (Create s b k)) h).0
-accepted_starts r (Enter s) h = (all_yes (questions r (Enter s)) h).0
 accepted_starts r Pause h = (all_yes (questions r Pause) h).0
-accepted_starts r (Finish w) h = (all_yes (questions r (Finish w)) h).0
-accepted_starts r (Destroy s) h = (all_yes (questions r (Destroy s)) h).0
-accepted_starts r (Access k a n v) h = (all_yes (questions r (Access k a n v)) h).0
-accepted_starts r (Register n w) h = (all_yes (questions r (Register n w)) h).0
+accepted_starts r c h = (all_yes (questions r c) h).0
 
 -- Parties and ranges.
 
 pub os_not : (w : Party) (e : ℕ) → os_runs w ≡ true → w ≡ Enclave e → ⊥
-os_not Os e h k = let z : ◌≡◌ {A = ℕ} 0 1 = cc in omega arith
-os_not (Enclave i) e h k = let z : ◌≡◌ {A = ℕ} 0 1 = cc in omega arith
+os_not w e h k = cc
 
-pub os_enclave : (e : ℕ) → Os ≡ Enclave e → ⊥
-os_enclave e k = let z : ◌≡◌ {A = ℕ} 0 1 = cc in omega arith
-
-pub none_some : {A : Type 0} (x : A) → None ≡ Some x → ⊥
-none_some x h = let z : ◌≡◌ {A = ℕ} 0 1 = cc in omega arith
-
-pub some_parts : (a b f t : ℕ) → ◌≡◌ {A = Option (ℕ × ℕ)} (Some (a, b)) (Some (f, t)) → (a ≡ f) × (b ≡ t)
-some_parts a b f t h = let z : ◌≡◌ {A = ℕ × ℕ} (a, b) (f, t) = cc in (ap (λ (x : ℕ × ℕ). x.0) z, ap (λ (x : ℕ × ℕ). x.1) z)
+pub slot_number : (s : ℕ) → is_slot s ≡ true → (first_slot ≤ s) × (s < os_entry)
+slot_number s h = grind (arith, nat_tests)
 
 pub in_ranged : (o : Option (ℕ × ℕ)) (p : ℕ) → InRange o p → (f : ℕ) × (t : ℕ) × (o ≡ Some (f, t)) × (f ≤ p) × (p < t)
 in_ranged None p h = absurd h
 in_ranged (Some r) p h = (r.0, r.1, refl, h.0, h.1)
 
-pub ranged_in : (o : Option (ℕ × ℕ)) (f t p : ℕ) → o ≡ Some (f, t) → f ≤ p → p < t → InRange o p
-ranged_in o f t p h l m = subst (λ x. InRange x p) (sym h) (l, m)
+-- a byte of a live range
+pub inside : (r : Roll) (i f t p : ℕ) → ranged (r.slot i) ≡ Some (f, t) → f ≤ p → p < t → Holds r i p
+inside r i f t p h l m = subst (λ x. InRange x p) (sym h) (l, m)
+
+-- what holds of no range, and of the range of a live slot, holds of a slot's
+pub range_cases : (P : Option (ℕ × ℕ) → Type 0) (r : Roll) (i : ℕ) → P None → ((f t : ℕ) → ranged (r.slot i) ≡ Some (f, t) → P (Some (f, t)))
+    → P (ranged (r.slot i))
+range_cases P r i free live = go (ranged (r.slot i)) live
+  where
+    go : (x : Option (ℕ × ℕ)) → ((f t : ℕ) → x ≡ Some (f, t) → P (Some (f, t))) → P x
+    go None k = free
+    go (Some g) k = k g.0 g.1 refl
 
 pub free_ranged : (s : Slot) → is_free s ≡ true → ranged s ≡ None
 free_ranged Free h = refl
-free_ranged (Fresh _) h = absurd (both_ways false refl h)
-free_ranged (Running _) h = absurd (both_ways false refl h)
-free_ranged (Stopped _) h = absurd (both_ways false refl h)
-free_ranged (Finished _) h = absurd (both_ways false refl h)
+free_ranged _ h = cc
 
 pub restaged_range : (stage : ℕ × ℕ → Slot) → ((r : ℕ × ℕ) → ranged (stage r) ≡ Some r) → (s : Slot) → ranged (restaged stage s) ≡ ranged s
 restaged_range stage h Free = refl
@@ -99,11 +105,8 @@ restaged_rests stage h (Stopped r) = h r
 restaged_rests stage h (Finished r) = h r
 
 restaged_runs : (s : Slot) → is_free s ≡ false → is_running (restaged Running s) ≡ true
-restaged_runs Free h = absurd (both_ways true h refl)
-restaged_runs (Fresh r) h = refl
-restaged_runs (Running r) h = refl
-restaged_runs (Stopped r) h = refl
-restaged_runs (Finished r) h = refl
+restaged_runs Free h = cc
+restaged_runs _ h = refl
 
 -- One slot is put to another value.
 
@@ -145,17 +148,13 @@ put_range stage h f i j =
 
 freed_range : (f : ℕ → Slot) (s i a b : ℕ) → ranged (put f s Free i) ≡ Some (a, b) → ranged (f i) ≡ Some (a, b)
 freed_range f s i a b h =
-    elim (put_cases (λ y. ranged y ≡ Some (a, b)) f s Free i h) [ inl w ↦ absurd (none_some (a, b) w.1) | inr w ↦ w.1 ]
+    elim (put_cases (λ y. ranged y ≡ Some (a, b)) f s Free i h) [ inl w ↦ cc w.1 | inr w ↦ w.1 ]
 
 -- Ranges apart.
 
 apart_in : (o : Option (ℕ × ℕ)) (b t p : ℕ) → apart o b t ≡ true → InRange o p → b ≤ p → p < t → ⊥
 apart_in None b t p h k l m = k
-apart_in (Some r) b t p h k l m =
-    elim (or_cases (leb t r.0) (leb r.1 b) h) [
-      | inl e ↦ let z = leb-true t r.0 e in omega arith
-      | inr e ↦ let z = leb-true r.1 b e in omega arith
-    ]
+apart_in (Some r) b t p h k l m = grind (arith, nat_tests)
 
 below_in : (f : ℕ → Slot) (b t n : ℕ) → apart_below f b t n ≡ true → (i p : ℕ) → i < n → InRange (ranged (f i)) p → b ≤ p → p < t → ⊥
 unfolding apart_below
@@ -179,10 +178,10 @@ pub start_sound : (n : ℕ) → Sound (start n)
 start_sound n = record {
   place = λ i p h. absurd h;
   one = λ i j p h k. absurd h;
-  some = λ i f t h. absurd (none_some (f, t) h);
-  shape = λ i f t h. absurd (none_some (f, t) h);
-  at_work = λ e h. absurd (os_enclave e h);
-  alone = λ i h. absurd (both_ways false refl h);
+  some = λ i f t h. absurd (cc);
+  shape = λ i f t h. absurd (cc);
+  at_work = λ e h. absurd (cc);
+  alone = λ i h. cc;
 }
 
 -- a roll with no other ranges than a sound one
@@ -201,7 +200,7 @@ fewer r q e k works single s = record {
     held : (i p : ℕ) → Holds q i p → Holds r i p
     held i p h =
         let w = in_ranged (ranged (q.slot i)) p h in
-        ranged_in (ranged (r.slot i)) w.0 w.1 p (k i w.0 w.1 w.2) w.3 w.4
+        inside r i w.0 w.1 p (k i w.0 w.1 w.2) w.3 w.4
 
 -- once a slot is put to a stage that is not running, who else runs is unchanged
 rests : (r : Roll) (s : ℕ) (x : Slot) → Sound r → is_running x ≡ false → (i : ℕ) → is_running (put r.slot s x i) ≡ true → r.turn ≡ Enclave i
@@ -212,7 +211,7 @@ unfolding accept
 created r s b k o y = record {
   place = λ i p h.
       elim (put_in r.slot s new i p h) [
-        | inl w ↦ let e = w.0 in let q = w.1 in let l = free_of.0 in let n = number in let g = fits in omega arith
+        | inl w ↦ let e = w.0 in let q = w.1 in let l = free_of.0 in let n = slot_number s y.1.0 in let g = fits in omega arith
         | inr w ↦ o.place i p w.1
       ];
   one = λ i j p h l.
@@ -230,17 +229,17 @@ created r s b k o y = record {
       ];
   some = λ i f t h.
       elim (put_cases (λ x. ranged x ≡ Some (f, t)) r.slot s new i h) [
-        | inl w ↦ let e = some_parts b (b + 2 ^ k) f t w.1 in omega (arith, pow_pos k)
+        | inl w ↦ let e = some_pair_parts b f (b + 2 ^ k) t w.1 in omega (arith, pow_pos k)
         | inr w ↦ o.some i f t w.1
       ];
   shape = λ i f t h.
       elim (put_cases (λ x. ranged x ≡ Some (f, t)) r.slot s new i h) [
-        | inl w ↦ let e = some_parts b (b + 2 ^ k) f t w.1 in
+        | inl w ↦ let e = some_pair_parts b f (b + 2 ^ k) t w.1 in
             rw (← e.0, ← e.1, w.0) (record {
-              from_first = number.0;
+              from_first = (slot_number s y.1.0).0;
               power = k;
-              twelve = leb-true 12 k exponent.0;
-              thirty = leb-true k 30 exponent.1;
+              twelve = exponent.0;
+              thirty = exponent.1;
               to = refl;
               aligned = eqb-true (b % 2 ^ k) 0 y.1.1.1.1.1.0;
             })
@@ -259,17 +258,14 @@ created r s b k o y = record {
     fits : b + 2 ^ k ≤ r.size
     fits = leb-true (b + 2 ^ k) r.size y.1.1.1.1.1.1.0
 
-    number : (first_slot ≤ s) × (s ≤ last_slot)
-    number = let w = and_parts (leb first_slot s) (leb s last_slot) y.1.0 in (leb-true first_slot s w.0, leb-true s last_slot w.1)
-
-    exponent : (leb 12 k ≡ true) × (leb k 30 ≡ true)
-    exponent = and_parts (leb 12 k) (leb k 30) y.1.1.1.1.0
+    exponent : (12 ≤ k) × (k ≤ 30)
+    exponent = let e = y.1.1.1.1.0 in grind (arith, nat_tests)
 
 halted_sound : (stage : ℕ × ℕ → Slot) → ((r : ℕ × ℕ) → ranged (stage r) ≡ Some r) → ((r : ℕ × ℕ) → is_running (stage r) ≡ false)
     → (r : Roll) (t : Party) → r.turn ≡ t → Sound r → Sound (halted stage r t)
 halted_sound stage keeps still r Os q o = o
 halted_sound stage keeps still r (Enclave e) q o =
-    fewer r _ refl (λ i f t h. sym (put_range stage keeps r.slot e i) ∙ h) (λ i h. absurd (os_enclave i h)) none o
+    fewer r _ refl (λ i f t h. sym (put_range stage keeps r.slot e i) ∙ h) (λ i h. absurd (cc)) none o
   where
     none : (i : ℕ) → is_running (put r.slot e (restaged stage (r.slot e)) i) ≡ true → Os ≡ Enclave i
     none i h =
@@ -303,16 +299,10 @@ accept_sound r Pause o y = halted_sound Stopped (λ _. refl) (λ _. refl) r r.tu
 accept_sound r (Finish w) o y = halted_sound Finished (λ _. refl) (λ _. refl) r r.turn refl o
 accept_sound r (Destroy s) o y =
     fewer r _ refl (freed_range r.slot s) (λ e h. absurd (os_not r.turn e y.1.1.0 h)) (rests r s Free o refl) o
-accept_sound r (Access k a n v) o y = o
-accept_sound r (Register n w) o y = o
+accept_sound r _ o y = o
 
 pub next_sound : (r : Roll) (c : Call) → Sound r → Sound (next r c)
-unfolding next
-next_sound r c o = go (judges r c) refl
-  where
-    go : (x : Result (Unit {0}) Refusal) → judges r c ≡ x → Sound (ruled x (accept r c) (λ _. r))
-    go (Ok _) e = accept_sound r c o (all_yes (questions r c) e)
-    go (Err n) e = o
+next_sound r c o = next_cases Sound r c (λ q. accept_sound r c o (all_yes (questions r c) q)) o
 
 pub rolled_sound : (r : Roll) (cs : List Call) → Sound r → Sound (rolled r cs)
 rolled_sound r [] o = o
@@ -326,21 +316,12 @@ halted_size stage r (Enclave e) = refl
 
 accept_size : (r : Roll) (c : Call) → (accept r c).size ≡ r.size
 unfolding accept
-accept_size r (Create s b k) = refl
-accept_size r (Enter s) = refl
 accept_size r Pause = halted_size Stopped r r.turn
 accept_size r (Finish w) = halted_size Finished r r.turn
-accept_size r (Destroy s) = refl
-accept_size r (Access k a n v) = refl
-accept_size r (Register n w) = refl
+accept_size r _ = refl
 
 pub next_size : (r : Roll) (c : Call) → (next r c).size ≡ r.size
-unfolding next
-next_size r c = go (judges r c)
-  where
-    go : (x : Result (Unit {0}) Refusal) → (ruled x (accept r c) (λ _. r)).size ≡ r.size
-    go (Ok _) = accept_size r c
-    go (Err n) = refl
+next_size r c = next_cases (λ (q : Roll). q.size ≡ r.size) r c (λ _. accept_size r c) refl
 
 pub rolled_size : (r : Roll) (cs : List Call) → (rolled r cs).size ≡ r.size
 rolled_size r [] = refl
@@ -359,7 +340,7 @@ unfolding accept
 accept_ranged r (Create s f k) e a b y d h =
     elim (cases_eq e s) [
       | inl q ↦ let z : ranged (r.slot e) ≡ None = subst (λ i. ranged (r.slot i) ≡ None) (sym q) (free_ranged (r.slot s) y.1.1.1.0) in
-          absurd (none_some (a, b) (sym z ∙ h))
+          cc (sym z ∙ h)
       | inr ne ↦ ap ranged (put_other r.slot s (Fresh (f, f + 2 ^ k)) e ne) ∙ h
     ]
 accept_ranged r (Enter s) e a b y d h = put_range Running (λ _. refl) r.slot s e ∙ h
@@ -367,19 +348,14 @@ accept_ranged r Pause e a b y d h = halted_ranged Stopped (λ _. refl) r r.turn 
 accept_ranged r (Finish w) e a b y d h = halted_ranged Finished (λ _. refl) r r.turn e ∙ h
 accept_ranged r (Destroy s) e a b y d h =
     let ne : e ≡ s → ⊥ = λ q. d (ap Destroy (sym q)) in ap ranged (put_other r.slot s Free e ne) ∙ h
-accept_ranged r (Access k f n v) e a b y d h = h
-accept_ranged r (Register n w) e a b y d h = h
+accept_ranged r _ e a b y d h = h
 
 pub next_ranged : (r : Roll) (c : Call) (e a b : ℕ) → (c ≡ Destroy e → judges r c ≡ Accepted → ⊥)
     → ranged (r.slot e) ≡ Some (a, b) → ranged ((next r c).slot e) ≡ Some (a, b)
-unfolding next
-next_ranged r c e a b d h = go (judges r c) refl
-  where
-    go : (x : Result (Unit {0}) Refusal) → judges r c ≡ x → ranged ((ruled x (accept r c) (λ _. r)).slot e) ≡ Some (a, b)
-    go (Ok _) q = accept_ranged r c e a b (all_yes (questions r c) q) (λ z. d z q) h
-    go (Err n) q = h
+next_ranged r c e a b d h =
+    next_cases (λ (q : Roll). ranged (q.slot e) ≡ Some (a, b)) r c (λ q. accept_ranged r c e a b (all_yes (questions r c) q) (λ z. d z q) h) h
 
 pub holds_next : (r : Roll) (c : Call) (e p : ℕ) → (c ≡ Destroy e → judges r c ≡ Accepted → ⊥) → Holds r e p → Holds (next r c) e p
 holds_next r c e p d h =
     let w = in_ranged (ranged (r.slot e)) p h in
-    ranged_in (ranged ((next r c).slot e)) w.0 w.1 p (next_ranged r c e w.0 w.1 d w.2) w.3 w.4
+    inside (next r c) e w.0 w.1 p (next_ranged r c e w.0 w.1 d w.2) w.3 w.4

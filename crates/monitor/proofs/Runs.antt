@@ -1,26 +1,24 @@
 -- whole runs of the plain machine: it is closed off
-use Rattle.std.proofs.Common.{◌≡◌, ℕ, zero, suc, ◌+◌, ◌^◌, ◌<◌, ◌≤◌, Bool, true, false, cond, not, ◌&&◌, eqb, leb, List, [], ◌∷◌, length, get_or, Some, Ok, Err, Result, sym, refl, ap, ◌∙◌, subst, arith}
-use Rattle.bank.specs.Verdicts.{is_size}
-use Rattle.std.proofs.lemmas.Bool.{and_from, both_ways, eq-eqb, le-leb, leb-true, not_from_false}
+use Rattle.std.proofs.Common.{◌≡◌, ℕ, ◌+◌, ◌^◌, ◌<◌, ◌≤◌, Bool, true, false, cond, not, ◌&&◌, eqb, leb, List, [], ◌∷◌, length, get_or, Some, Ok, Err, Result, sym, refl, ap, ◌∙◌, subst, arith}
+use Rattle.std.proofs.lemmas.Bool.{and_from, eq-eqb, le-leb, leb-true, not_from_false}
 use Rattle.refusals.specs.Questions.{ruled}
-use Rattle.refusals.specs.declared.Refusal.{Refusal}
 use Rattle.monitor.specs.Bytes.{accessed, stored}
 use Rattle.monitor.specs.Content.{cause_of}
 use Rattle.monitor.specs.Layout.{common_first, common_past, starts}
 use Rattle.monitor.specs.Roll.{Accepted, Holds, May, Roll, accept, hands_back, judges, next, only, questions, rolled, start, within}
 use Rattle.monitor.specs.Slots.{ranged}
 use Rattle.monitor.specs.Theorem.{Agree, Between, ClosedOff, Lasts, Log, Unseen, calls, judged_by, log, others, own, ran}
-use Rattle.monitor.specs.declared.answer.Answer.{Answer}
-use Rattle.monitor.specs.declared.answer.Answer.TheVariants.{Done, Fault, Refused}
+use Rattle.monitor.specs.declared.answer.Denial.{Denial}
+use Rattle.monitor.specs.declared.answer.Denial.TheVariants.{Fault, Refused}
 use Rattle.monitor.specs.declared.answer.Layer.{Layer}
 use Rattle.monitor.specs.declared.answer.Layer.TheVariants.{Protection, Memory}
 use Rattle.monitor.specs.declared.call.Call.{Call}
-use Rattle.monitor.specs.declared.call.Call.TheVariants.{Create, Enter, Pause, Finish, Destroy, Access, Register}
+use Rattle.monitor.specs.declared.call.Call.TheVariants.{Create, Access}
 use Rattle.monitor.specs.declared.slot.Party.TheVariants.{Enclave}
 use Rattle.monitor.specs.declared.slot.Slot.TheVariants.{Fresh}
-use Rattle.monitor.proofs.Access.{may_permits, permits_may}
+use Rattle.monitor.proofs.Access.{may_permits, permits_may, size_pos}
 use Rattle.monitor.proofs.Plain.{Simple, accepted_answer, permits, plain, plain_access_answer, plain_access_bytes, plain_after, plain_answer}
-use Rattle.monitor.proofs.Rolls.{accepted_starts, all_yes, next_size, next_sound, put_same, rolled_size, rolled_sound, start_sound, starts_big}
+use Rattle.monitor.proofs.Rolls.{accepted_starts, all_yes, next_size, next_sound, put_same, rolled_size, rolled_sound, ruled_cases, start_sound, starts_big}
 use Rattle.monitor.proofs.Sound.{Sound}
 use Rattle.monitor.proofs.Steps.{Alike, alike_answer, alike_in, alike_out, length_after, own_turn}
 use Rattle.monitor.proofs.Views.{View, range_fits, view_answer, view_in, view_out}
@@ -38,7 +36,7 @@ pub ran_length : (r : Roll) (bs : List ℕ) (cs : List Call) → length (ran pla
 ran_length r bs [] = refl
 ran_length r bs (c ∷ cs) = ran_length (next r c) (plain_after r bs c) cs ∙ length_after r bs c
 
-pair_path : (c : Call) (a b : Answer) (l k : Log) → a ≡ b → l ≡ k → ◌≡◌ {A = Log} ((c, a) ∷ l) ((c, b) ∷ k)
+pair_path : (c : Call) (a b : Result ℕ Denial) (l k : Log) → a ≡ b → l ≡ k → ◌≡◌ {A = Log} ((c, a) ∷ l) ((c, b) ∷ k)
 pair_path c a b l k p q = cc
 
 -- What a set of slots does is unseen.
@@ -133,11 +131,7 @@ create_next r e b k h =
 
 create_bytes : (r : Roll) (bs : List ℕ) (e b k : ℕ) → plain_after r bs (Create e b k) ≡ bs
 unfolding plain_after
-create_bytes r bs e b k = go (judges r (Create e b k))
-  where
-    go : (x : Result (Unit {0}) Refusal) → ruled x bs (λ _. bs) ≡ bs
-    go (Ok _) = refl
-    go (Err n) = refl
+create_bytes r bs e b k = ruled_cases (λ (l : List ℕ). l ≡ bs) (judges r (Create e b k)) bs (λ _. bs) (λ _. refl) (λ _ _. refl)
 
 -- two machines, each with slot e live in the same range
 viewed_alike : (e f t : ℕ) (r s : Roll) (xs ys : List ℕ) (cs ds : List Call) → Sound r → Sound s
@@ -202,22 +196,18 @@ created_alike e base k m n ys₁ ys₂ sm sn lm ln a₁ a₂ range page d₁ d�
 
 -- Accesses are carried out exactly where they may be.
 
-pub size_pos : (n : ℕ) → is_size n ≡ true → 0 < n
-size_pos zero h = absurd (both_ways false refl h)
-size_pos (suc n) h = omega arith
-
-done_may : (r : Roll) (bs : List ℕ) (kind a n w : ℕ) → Sound r → length bs ≡ r.size → plain_access_answer r bs kind a n ≡ Done w → May r kind a n
+done_may : (r : Roll) (bs : List ℕ) (kind a n w : ℕ) → Sound r → length bs ≡ r.size → plain_access_answer r bs kind a n ≡ Ok w → May r kind a n
 unfolding plain_access_answer
 done_may r bs kind a n w s z h = go (permits r kind a (a + n)) (leb (a + n) (length bs)) refl refl h
   where
     go : (b c : Bool) → permits r kind a (a + n) ≡ b → leb (a + n) (length bs) ≡ c
-        → cond b (cond c (Done (accessed bs kind a n)) (Fault Memory (cause_of kind))) (Fault Protection (cause_of kind)) ≡ Done w → May r kind a n
+        → cond b (cond c (Ok (accessed bs kind a n)) (Err (Fault Memory (cause_of kind)))) (Err (Fault Protection (cause_of kind))) ≡ Ok w → May r kind a n
     go true true p l _ = let m = leb-true (a + n) (length bs) l in permits_may r kind a n s p (omega arith)
-    go true false p l q = let i : ◌≡◌ {A = ℕ} 0 1 = cc in absurd (let j : ⊥ = omega arith in j)
-    go false c p l q = let i : ◌≡◌ {A = ℕ} 0 1 = cc in absurd (let j : ⊥ = omega arith in j)
+    go true false p l q = cc
+    go false c p l q = cc
 
 may_done : (r : Roll) (bs : List ℕ) (kind a n v : ℕ) → Sound r → length bs ≡ r.size → common_past ≤ r.size → 0 < n → May r kind a n
-    → (plain_access_answer r bs kind a n ≡ Done (accessed bs kind a n)) × (plain_access_bytes r bs kind a n v ≡ stored bs kind a n v)
+    → (plain_access_answer r bs kind a n ≡ Ok (accessed bs kind a n)) × (plain_access_bytes r bs kind a n v ≡ stored bs kind a n v)
 unfolding plain_access_answer plain_access_bytes
 may_done r bs kind a n v s z big pos m =
     let w = may_permits r kind a n s pos big m in
@@ -227,13 +217,13 @@ may_done r bs kind a n v s z big pos m =
     (rw (p, l), rw (p, l))
 
 may_not : (r : Roll) (bs : List ℕ) (kind a n v : ℕ) → Sound r → length bs ≡ r.size → (May r kind a n → ⊥)
-    → ((layer : Layer) × (cause : ℕ) × (plain_access_answer r bs kind a n ≡ Fault layer cause)) × (plain_access_bytes r bs kind a n v ≡ bs)
+    → ((layer : Layer) × (cause : ℕ) × (plain_access_answer r bs kind a n ≡ Err (Fault layer cause))) × (plain_access_bytes r bs kind a n v ≡ bs)
 unfolding plain_access_answer plain_access_bytes
 may_not r bs kind a n v s z bar = go (permits r kind a (a + n)) (leb (a + n) (length bs)) refl refl
   where
     go : (b c : Bool) → permits r kind a (a + n) ≡ b → leb (a + n) (length bs) ≡ c
         → ((layer : Layer) × (cause : ℕ)
-        × (cond b (cond c (Done (accessed bs kind a n)) (Fault Memory (cause_of kind))) (Fault Protection (cause_of kind)) ≡ Fault layer cause))
+        × (cond b (cond c (Ok (accessed bs kind a n)) (Err (Fault Memory (cause_of kind)))) (Err (Fault Protection (cause_of kind))) ≡ Err (Fault layer cause)))
         × (cond (b && c) (stored bs kind a n v) bs ≡ bs)
     go true true p l = let m = leb-true (a + n) (length bs) l in absurd (bar (permits_may r kind a n s p (omega arith)))
     go true false p l = ((Memory, cause_of kind, refl), refl)
@@ -242,13 +232,13 @@ may_not r bs kind a n v s z bar = go (permits r kind a (a + n)) (leb (a + n) (le
 plain_carried_out : (r : Roll) (bs : List ℕ) (kind a n v : ℕ) → Sound r → length bs ≡ r.size
     → let c = Access kind a n v in
     judges r c ≡ Accepted
-    → (May r kind a n → (plain_answer r bs c ≡ Done (accessed bs kind a n)) × (plain_after r bs c ≡ stored bs kind a n v))
-    × (((w : ℕ) × (plain_answer r bs c ≡ Done w)) → May r kind a n)
-    × ((May r kind a n → ⊥) → ((layer : Layer) × (cause : ℕ) × (plain_answer r bs c ≡ Fault layer cause)) × (plain_after r bs c ≡ bs))
+    → (May r kind a n → (plain_answer r bs c ≡ Ok (accessed bs kind a n)) × (plain_after r bs c ≡ stored bs kind a n v))
+    × (((w : ℕ) × (plain_answer r bs c ≡ Ok w)) → May r kind a n)
+    × ((May r kind a n → ⊥) → ((layer : Layer) × (cause : ℕ) × (plain_answer r bs c ≡ Err (Fault layer cause))) × (plain_after r bs c ≡ bs))
 unfolding plain_answer plain_after
 plain_carried_out r bs kind a n v s z ok =
-    let x : ruled (judges r (Access kind a n v)) (plain_access_answer r bs kind a n) Refused ≡ plain_access_answer r bs kind a n
-    = ap (λ y. ruled y (plain_access_answer r bs kind a n) Refused) ok in
+    let x : ruled (judges r (Access kind a n v)) (plain_access_answer r bs kind a n) (λ e. Err (Refused e)) ≡ plain_access_answer r bs kind a n
+    = ap (λ y. ruled y (plain_access_answer r bs kind a n) (λ e. Err (Refused e))) ok in
     let u : ruled (judges r (Access kind a n v)) (plain_access_bytes r bs kind a n v) (λ _. bs) ≡ plain_access_bytes r bs kind a n v
     = ap (λ y. ruled y (plain_access_bytes r bs kind a n v) (λ _. bs)) ok in
     let yes = all_yes (questions r (Access kind a n v)) ok in
@@ -262,25 +252,18 @@ plain_carried_out r bs kind a n v s z ok =
 
 judged : (r : Roll) (bs : List ℕ) (c : Call) → judged_by (plain_answer r bs c) ≡ judges r c
 unfolding plain_answer plain_access_answer
-judged r bs c = go (judges r c)
+judged r bs c =
+    ruled_cases (λ (a : Result ℕ Denial). judged_by a ≡ judges r c) (judges r c) (accepted_answer r bs c) (λ e. Err (Refused e))
+    (λ q. acc c ∙ sym q) (λ _ q. sym q)
   where
-    access : (b d : Bool) (v w : ℕ) → judged_by (cond b (cond d (Done v) (Fault Memory w)) (Fault Protection w)) ≡ Accepted
+    access : (b d : Bool) (v w : ℕ) → judged_by (cond b (cond d (Ok v) (Err (Fault Memory w))) (Err (Fault Protection w))) ≡ Accepted
     access true true v w = refl
     access true false v w = refl
     access false d v w = refl
 
     acc : (c : Call) → judged_by (accepted_answer r bs c) ≡ Accepted
-    acc (Create s b k) = refl
-    acc (Enter s) = refl
-    acc Pause = refl
-    acc (Finish w) = refl
-    acc (Destroy s) = refl
     acc (Access k a n v) = access (permits r k a (a + n)) (leb (a + n) (length bs)) (accessed bs k a n) (cause_of k)
-    acc (Register n w) = refl
-
-    go : (x : Result (Unit {0}) Refusal) → judged_by (ruled x (accepted_answer r bs c) Refused) ≡ x
-    go (Ok _) = acc c
-    go (Err n) = refl
+    acc _ = refl
 
 -- All of it.
 

@@ -1,29 +1,28 @@
 -- one call on the plain machine, and two runs that differ in what a set of slots does
-use Rattle.std.proofs.Common.{◌≡◌, ℕ, ◌+◌, ◌-◌, ◌<◌, ◌≤◌, Bool, true, false, not, leb, List, length, get_or, replicate, Some, None, Ok, Err, Option, Result, sym, refl, ap, ◌∙◌, subst, inl, inr, arith}
+use Rattle.std.proofs.Common.{◌≡◌, ℕ, ◌+◌, ◌-◌, ◌<◌, ◌≤◌, Bool, true, false, not, leb, List, length, get_or, replicate, Some, None, Err, Option, sym, refl, ap, ◌∙◌, subst, inl, inr, arith}
 use lib.ListN.{get_or-eq_default, length-replicate}
 use lib.Seq.{length-sets}
 use Rattle.std.proofs.lemmas.Bool.{and_cases, and_parts, both_ways, cases_lt, eqb-true, leb-true, not-false, not-true}
 use Rattle.refusals.specs.Questions.{ruled}
-use Rattle.refusals.specs.declared.Refusal.{Refusal}
 use Rattle.monitor.specs.Layout.{common_past}
 use Rattle.monitor.specs.Roll.{Accepted, Belongs, Holds, Roll, accept, hands_back, judges, next, only, questions, runs_in, within}
 use Rattle.monitor.specs.Slots.{InRange, os_runs, ranged}
 use Rattle.monitor.specs.Theorem.{Agree}
-use Rattle.monitor.specs.declared.answer.Answer.TheVariants.{Refused}
+use Rattle.monitor.specs.declared.answer.Denial.TheVariants.{Refused}
 use Rattle.monitor.specs.declared.call.Call.{Call}
-use Rattle.monitor.specs.declared.call.Call.TheVariants.{Create, Enter, Pause, Finish, Destroy, Access, Register}
+use Rattle.monitor.specs.declared.call.Call.TheVariants.{Pause, Finish, Destroy, Access, Register}
 use Rattle.monitor.specs.declared.slot.Party.{Party}
 use Rattle.monitor.specs.declared.slot.Party.TheVariants.{Os, Enclave}
 use Rattle.monitor.proofs.Access.{access_agree, access_same, length_access, permits_may, store_stays}
 use Rattle.monitor.proofs.Memory.{sets_agree, sets_out}
 use Rattle.monitor.proofs.Plain.{accepted_answer, accepted_bytes, plain_after, plain_answer, wipe}
-use Rattle.monitor.proofs.Rolls.{AllYes, all_yes, holds_next, never, next_size, next_sound}
+use Rattle.monitor.proofs.Rolls.{AllYes, all_yes, holds_next, next_cases, next_size, next_sound, ruled_cases, ruled_pair}
 use Rattle.monitor.proofs.Sound.{Sound}
 
 -- Who runs.
 
 runs_turn : (w : Party) (E : ℕ → Bool) → runs_in w E ≡ true → (i : ℕ) × (E i ≡ true) × (w ≡ Enclave i)
-runs_turn Os E h = absurd (both_ways false refl h)
+runs_turn Os E h = cc
 runs_turn (Enclave i) E h = (i, h, refl)
 
 pub within_turn : (E : ℕ → Bool) (r : Roll) (c : Call) → within E r c ≡ true → ((i : ℕ) × (E i ≡ true) × (r.turn ≡ Enclave i)) × (hands_back c ≡ false)
@@ -57,21 +56,16 @@ belongs_past r (Enclave i) p s b = (s.place i p b).1
 
 inside_accept : (r : Roll) (c : Call) → os_runs r.turn ≡ false → hands_back c ≡ false → AllYes (questions r c) → accept r c ≡ r
 unfolding accept
-inside_accept r (Create s b k) t h y = absurd (both_ways (os_runs r.turn) t y.1.1.0)
-inside_accept r (Enter s) t h y = absurd (both_ways (os_runs r.turn) t y.1.1.0)
-inside_accept r Pause t h y = absurd (both_ways true h refl)
-inside_accept r (Finish w) t h y = absurd (both_ways true h refl)
-inside_accept r (Destroy s) t h y = absurd (both_ways (os_runs r.turn) t y.1.1.0)
+inside_accept r Pause t h y = cc
+inside_accept r (Finish w) t h y = cc
 inside_accept r (Access k a n v) t h y = refl
 inside_accept r (Register n w) t h y = refl
+inside_accept r _ t h y = absurd (both_ways (os_runs r.turn) t y.1.1.0)
 
 pub inside_roll : (E : ℕ → Bool) (r : Roll) (c : Call) → within E r c ≡ true → next r c ≡ r
-unfolding next
-inside_roll E r c h = go (judges r c) refl
-  where
-    go : (x : Result (Unit {0}) Refusal) → judges r c ≡ x → ruled x (accept r c) (λ _. r) ≡ r
-    go (Ok _) q = inside_accept r c (ap os_runs (within_turn E r c h).0.2) (within_turn E r c h).1 (all_yes (questions r c) q)
-    go (Err n) q = refl
+inside_roll E r c h =
+    let w = within_turn E r c h in
+    next_cases (λ (q : Roll). q ≡ r) r c (λ q. inside_accept r c (ap os_runs w.0.2) w.1 (all_yes (questions r c) q)) refl
 
 -- What a call leaves of the bytes.
 
@@ -81,25 +75,17 @@ length_wipe (Some r) bs = length-sets bs r.0 (replicate (r.1 - r.0) 0)
 
 pub length_after : (r : Roll) (bs : List ℕ) (c : Call) → length (plain_after r bs c) ≡ length bs
 unfolding plain_after
-length_after r bs c = go (judges r c) c
+length_after r bs c = ruled_cases (λ (l : List ℕ). length l ≡ length bs) (judges r c) (accepted_bytes r bs c) (λ _. bs) (λ _. acc c) (λ _ _. refl)
   where
-    go : (x : Result (Unit {0}) Refusal) (d : Call) → length (ruled x (accepted_bytes r bs d) (λ _. bs)) ≡ length bs
-    go (Err n) d = refl
-    go (Ok _) (Create s b k) = refl
-    go (Ok _) (Enter s) = refl
-    go (Ok _) Pause = refl
-    go (Ok _) (Finish w) = refl
-    go (Ok _) (Destroy s) = length_wipe (ranged (r.slot s)) bs
-    go (Ok _) (Access k a n v) = length_access r bs k a n v
-    go (Ok _) (Register n w) = refl
-
-length_zeros : (n : ℕ) → length (replicate {A = ℕ} n 0) ≡ n
-length_zeros n = length-replicate n 0
+    acc : (c : Call) → length (accepted_bytes r bs c) ≡ length bs
+    acc (Destroy s) = length_wipe (ranged (r.slot s)) bs
+    acc (Access k a n v) = length_access r bs k a n v
+    acc _ = refl
 
 wipe_out : (o : Option (ℕ × ℕ)) (bs : List ℕ) (p : ℕ) → (InRange o p → ⊥) → get_or (wipe o bs) p 0 ≡ get_or bs p 0
 wipe_out None bs p h = refl
 wipe_out (Some r) bs p h =
-    let z = length_zeros (r.1 - r.0) in
+    let z = length-replicate {A = ℕ} (r.1 - r.0) 0 in
     sets_out (replicate (r.1 - r.0) 0) bs r.0 p
     (elim (cases_lt p r.0) [ inl l ↦ inl l | inr l ↦ elim (cases_lt p r.1) [ inl m ↦ absurd (h (l, m)) | inr m ↦ inr (omega arith) ] ])
 
@@ -107,7 +93,7 @@ wipe_agree : (o : Option (ℕ × ℕ)) (xs ys : List ℕ) (p : ℕ) → p < leng
     → get_or (wipe o xs) p 0 ≡ get_or (wipe o ys) p 0
 wipe_agree None xs ys p lx ly h = h (λ z. z)
 wipe_agree (Some r) xs ys p lx ly h =
-    let z = length_zeros (r.1 - r.0) in
+    let z = length-replicate {A = ℕ} (r.1 - r.0) 0 in
     sets_agree (replicate (r.1 - r.0) 0) xs ys r.0 p lx ly (λ o. h (λ k. elim o [ inl l ↦ omega arith | inr l ↦ omega arith ]))
 
 -- a byte that is not the running party's, and not in a range that is destroyed, stays
@@ -115,21 +101,14 @@ pub bytes_stay : (r : Roll) (bs : List ℕ) (c : Call) (p : ℕ) → Sound r →
     → (hands_back c ≡ false → Belongs r r.turn p → ⊥) → ((s : ℕ) → c ≡ Destroy s → judges r c ≡ Accepted → Holds r s p → ⊥)
     → get_or (plain_after r bs c) p 0 ≡ get_or bs p 0
 unfolding plain_after
-bytes_stay r bs c p o e b d = go (judges r c) refl
+bytes_stay r bs c p o e b d =
+    ruled_cases (λ (l : List ℕ). get_or l p 0 ≡ get_or bs p 0) (judges r c) (accepted_bytes r bs c) (λ _. bs) (λ q. acc c b (λ s z. d s z q)) (λ _ _. refl)
   where
     acc : (c : Call) → (hands_back c ≡ false → Belongs r r.turn p → ⊥) → ((s : ℕ) → c ≡ Destroy s → Holds r s p → ⊥)
         → get_or (accepted_bytes r bs c) p 0 ≡ get_or bs p 0
-    acc (Create s b k) h i = refl
-    acc (Enter s) h i = refl
-    acc Pause h i = refl
-    acc (Finish w) h i = refl
     acc (Destroy s) h i = wipe_out (ranged (r.slot s)) bs p (i s refl)
     acc (Access k a n v) h i = store_stays r bs k a n v p o e (h refl)
-    acc (Register n w) h i = refl
-
-    go : (x : Result (Unit {0}) Refusal) → judges r c ≡ x → get_or (ruled x (accepted_bytes r bs c) (λ _. bs)) p 0 ≡ get_or bs p 0
-    go (Ok _) q = acc c b (λ s z. d s z q)
-    go (Err n) q = refl
+    acc _ h i = refl
 
 -- Two runs that differ only in what a set of slots does.
 
@@ -161,14 +140,9 @@ alike_in E r q xs ys c h a =
 
 pub alike_answer : (E : ℕ → Bool) (r : Roll) (xs ys : List ℕ) (c : Call) → within E r c ≡ false → Alike E r r xs ys → plain_answer r xs c ≡ plain_answer r ys c
 unfolding plain_answer
-alike_answer E r xs ys c h a = go (judges r c)
+alike_answer E r xs ys c h a = ap (λ x. ruled (judges r c) x (λ e. Err (Refused e))) (acc c h)
   where
     acc : (c : Call) → within E r c ≡ false → accepted_answer r xs c ≡ accepted_answer r ys c
-    acc (Create s b k) h = refl
-    acc (Enter s) h = refl
-    acc Pause h = refl
-    acc (Finish w) h = refl
-    acc (Destroy s) h = refl
     acc (Access k b n v) h =
         access_same r r xs ys k b n refl (λ _. ap (λ z. leb (b + n) z) (a.len_x ∙ sym a.len_y))
         (λ w z p l m.
@@ -178,17 +152,15 @@ alike_answer E r xs ys c h a = go (judges r c)
           | inl o ↦ unseen_by r r.turn E e p a.sound Ee (without E r (Access k b n v) h refl) (o p l m) held
           | inr o ↦ let y = (a.sound.place e p held).1 in let x = o.2 in omega arith
         ]))
-    acc (Register n w) h = refl
-
-    go : (x : Result (Unit {0}) Refusal) → ruled x (accepted_answer r xs c) Refused ≡ ruled x (accepted_answer r ys c) Refused
-    go (Ok _) = acc c h
-    go (Err n) = refl
+    acc _ h = refl
 
 alike_bytes : (E : ℕ → Bool) (r : Roll) (xs ys : List ℕ) (c : Call) (p : ℕ) → Alike E r r xs ys → p < r.size
     → ((e : ℕ) → E e ≡ true → Holds (next r c) e p → ⊥)
     → get_or (plain_after r xs c) p 0 ≡ get_or (plain_after r ys c) p 0
 unfolding plain_after
-alike_bytes E r xs ys c p a l out = go (judges r c) refl
+alike_bytes E r xs ys c p a l out =
+    ruled_pair (λ (k m : List ℕ). get_or k p 0 ≡ get_or m p 0) (judges r c) (accepted_bytes r xs c) (accepted_bytes r ys c) (λ _. xs) (λ _. ys)
+    (λ _. acc c refl) (λ n q. stays (λ e z y _. cc (sym q ∙ y)))
   where
     lx : p < length xs
     lx = let z = a.len_x in omega arith
@@ -203,22 +175,13 @@ alike_bytes E r xs ys c p a l out = go (judges r c) refl
     kept d q n = stays (λ e z _ _. n e (sym q ∙ z))
 
     acc : (d : Call) → c ≡ d → get_or (accepted_bytes r xs d) p 0 ≡ get_or (accepted_bytes r ys d) p 0
-    acc (Create s b k) q = kept (Create s b k) q (λ e z. let w : ◌≡◌ {A = ℕ} 0 1 = cc in omega arith)
-    acc (Enter s) q = kept (Enter s) q (λ e z. let w : ◌≡◌ {A = ℕ} 0 1 = cc in omega arith)
-    acc Pause q = kept Pause q (λ e z. let w : ◌≡◌ {A = ℕ} 0 1 = cc in omega arith)
-    acc (Finish w) q = kept (Finish w) q (λ e z. let w : ◌≡◌ {A = ℕ} 0 1 = cc in omega arith)
     acc (Destroy s) q =
         wipe_agree (ranged (r.slot s)) xs ys p lx ly
         (λ out_of_lem. stays (λ e z _ h. let w : s ≡ e = cc in out_of_lem (subst (λ i. Holds r i p) (sym w) h)))
     acc (Access k b n v) q =
         access_agree r r xs ys k b n v p refl (λ _. ap (λ z. leb (b + n) z) (a.len_x ∙ sym a.len_y)) lx ly
-        (kept (Access k b n v) q (λ e z. let w : ◌≡◌ {A = ℕ} 0 1 = cc in omega arith))
-    acc (Register n w) q = kept (Register n w) q (λ e z. let w : ◌≡◌ {A = ℕ} 0 1 = cc in omega arith)
-
-    go : (x : Result (Unit {0}) Refusal) → judges r c ≡ x
-        → get_or (ruled x (accepted_bytes r xs c) (λ _. xs)) p 0 ≡ get_or (ruled x (accepted_bytes r ys c) (λ _. ys)) p 0
-    go (Ok _) q = acc c refl
-    go (Err n) q = stays (λ e z y _. never n (sym q ∙ y))
+        (kept (Access k b n v) q (λ e z. cc))
+    acc d q = kept d q (λ e z. cc)
 
 pub alike_out : (E : ℕ → Bool) (r : Roll) (xs ys : List ℕ) (c : Call) → Alike E r r xs ys
     → Alike E (next r c) (next r c) (plain_after r xs c) (plain_after r ys c)

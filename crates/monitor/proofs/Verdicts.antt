@@ -1,8 +1,9 @@
 -- the bank's verdicts are those of the roll
 use Rattle.std.proofs.Common.{◌≡◌, ℕ, zero, suc, pred, ◌+◌, ◌-◌, ◌/◌, ◌^◌, ◌<◌, ◌≤◌, min, max, Bool, true, false, cond, not, ◌&&◌, ◌||◌, eqb, leb, List, length, Some, None, Ok, Err, Option, Result, sym, refl, ap, ◌∙◌, subst, inl, inr, arith}
 use lib.Bits.{bit_and}
-use Rattle.std.proofs.lemmas.Bool.{and_from, and_parts, and_right, both_ways, cases_Bool, cases_eq, cases_lt, eq-eqb, le-leb, leb-true, lt-leb, ltb-true, ne_eqb}
+use Rattle.std.proofs.lemmas.Bool.{and_from, and_parts, and_right, both_ways, cases_Bool, cases_eq, cases_lt, eq-eqb, le-leb, lt-leb, ltb-true, ne_eqb}
 use Rattle.std.proofs.lemmas.Bool.Decides.{nat_tests}
+use Rattle.std.proofs.Math.Bool.{and-false, and-true, and_comm, or-false}
 use Rattle.refusals.specs.declared.Refusal.{Refusal}
 use Rattle.bank.specs.Content.{count, entry_of, is_locked, zero_entry}
 use Rattle.bank.specs.Ranges.{end, napot_range, range_by, range_of, trailing_ones, word_below}
@@ -17,15 +18,17 @@ use Rattle.bank.proofs.Words.{size_steps, word_back}
 use Rattle.monitor.specs.Bytes.{accessed, stored}
 use Rattle.monitor.specs.Content.{access_answer, access_bytes, cause_of, is_allowed}
 use Rattle.monitor.specs.Layout.{common_past, first_slot, opened, os_entry, shut}
-use Rattle.monitor.specs.Roll.{Holds, Roll, apart, apart_below, only, runs_in}
-use Rattle.monitor.specs.Slots.{InRange, ranged}
-use Rattle.monitor.specs.declared.answer.Answer.TheVariants.{Done, Fault}
+use Rattle.monitor.specs.Roll.{Roll, apart, apart_below, only, runs_in}
+use Rattle.monitor.specs.Slots.{ranged}
+use Rattle.monitor.specs.declared.answer.Denial.TheVariants.{Fault}
 use Rattle.monitor.specs.declared.answer.Layer.TheVariants.{Protection, Memory}
 use Rattle.monitor.specs.declared.slot.Party.{Party}
 use Rattle.monitor.specs.declared.slot.Party.TheVariants.{Os, Enclave}
 use Rattle.monitor.specs.declared.slot.Slot.{Slot}
+use Rattle.monitor.proofs.Access.{size_pos}
 use Rattle.monitor.proofs.Held.{Held, entry, rank, slot_entry, system_entry}
 use Rattle.monitor.proofs.Plain.{covers, permits, permits_turn, plain_access_answer, plain_access_bytes}
+use Rattle.monitor.proofs.Rolls.{inside, range_cases}
 use Rattle.monitor.proofs.Sound.{Shaped, Sound}
 
 -- Verdicts, entry by entry.
@@ -84,10 +87,6 @@ fixed_15 : napot_range 0xFFFFFFFF ≡ (0, 2 ^ 34)
 unfolding trailing_ones
 fixed_15 = refl
 
--- a byte of a live range
-inside : (r : Roll) (i f u p : ℕ) → ranged (r.slot i) ≡ Some (f, u) → f ≤ p → p < u → Holds r i p
-inside r i f u p h a b = subst (λ y. InRange y p) (sym h) (a, b)
-
 pub slot_range : (r : Roll) (low i f u : ℕ) → Sound r → r.size ≤ 2 ^ 34 → ranged (r.slot i) ≡ Some (f, u)
     → range_in low (slot_entry r.turn i (Some (f, u))) ≡ Some (f, u)
 slot_range r low i f u s z h = by_run (runs_in r.turn (only i))
@@ -138,23 +137,12 @@ unlocked_byte false = refl
 
 -- Tests.
 
-and_true : (x : Bool) → (x && true) ≡ x
-and_true true = refl
-and_true false = refl
-
-and_false : (x : Bool) → (x && false) ≡ false
-and_false true = refl
-and_false false = refl
-
 cond_and : (x y : Bool) → cond x y false ≡ (x && y)
 cond_and true y = refl
 cond_and false y = refl
 
 swap : (x y : Bool) → (x && y) ≡ ((y && x) || false)
-swap true true = refl
-swap true false = refl
-swap false true = refl
-swap false false = refl
+swap x y = and_comm x y ∙ sym (or-false (y && x))
 
 -- a range that is not empty meets a span exactly if the two are not apart
 meets_apart : (f u a t : ℕ) → f < u → a < t → meets (Some (f, u)) (a, t) ≡ not (apart (Some (f, u)) a t)
@@ -180,14 +168,12 @@ covers_none r e i a t s ne l h = go (ranged (r.slot e)) (ranged (r.slot i)) refl
   where
     go : (x y : Option (ℕ × ℕ)) → ranged (r.slot e) ≡ x → ranged (r.slot i) ≡ y → apart y a t ≡ false → covers x a t ≡ false
     go None y p q k = refl
-    go (Some x) None p q k = absurd (both_ways true k refl)
+    go (Some x) None p q k = cc
     go (Some x) (Some y) p q k =
         elim (cases_Bool (covers (Some x) a t)) [
           | inl z ↦
               let n = s.some i y.0 y.1 q in
-              let z = and_parts (leb x.0 a) (leb t x.1) z in
-              let z0 = leb-true x.0 a z.0 in
-              let z1 = leb-true t x.1 z.1 in
+              let z0 : (x.0 ≤ a) × (t ≤ x.1) = grind (arith, nat_tests) in
               let k0 : (y.0 < t) × (a < y.1) = grind (arith, nat_tests) in
               let m = max a y.0 in
               absurd (ne (s.one e i m (inside r e x.0 x.1 m p (omega arith) (omega arith)) (inside r i y.0 y.1 m q (omega arith) (omega arith))))
@@ -198,7 +184,7 @@ covers_none r e i a t s ne l h = go (ranged (r.slot e)) (ranged (r.slot i)) refl
 turn_met : (r : Roll) (w : Party) (i f u a t : ℕ) → Sound r → i < os_entry → a < t → ranged (r.slot i) ≡ Some (f, u) → apart (ranged (r.slot i)) a t ≡ false
     → (covers (Some (f, u)) a t && runs_in w (only i)) ≡ permits_turn r w a t
 turn_met r Os i f u a t s l lt h k =
-    and_false (covers (Some (f, u)) a t)
+    and-false (covers (Some (f, u)) a t)
     ∙ sym (and_right (leb common_past a) (apart_below r.slot a t os_entry)
     (elim (cases_Bool (apart_below r.slot a t os_entry)) [
       | inl z ↦ absurd (both_ways (apart (ranged (r.slot i)) a t) k (apart_at r.slot a t os_entry i z l))
@@ -206,41 +192,34 @@ turn_met r Os i f u a t s l lt h k =
     ]))
 turn_met r (Enclave e) i f u a t s l lt h k =
     elim (cases_eq e i) [
-      | inl q ↦ rw (q, eq-eqb i i refl, h) (and_true (covers (Some (f, u)) a t))
-      | inr ne ↦ rw (ne_eqb e i ne, covers_none r e i a t s ne lt k) (and_false (covers (Some (f, u)) a t))
+      | inl q ↦ rw (q, eq-eqb i i refl, h) (and-true (covers (Some (f, u)) a t))
+      | inr ne ↦ rw (ne_eqb e i ne, covers_none r e i a t s ne lt k) (and-false (covers (Some (f, u)) a t))
     ]
 
 -- where no slot is met, no enclave may
 turn_apart : (r : Roll) (e a t : ℕ) → Sound r → a < t → apart_below r.slot a t os_entry ≡ true → covers (ranged (r.slot e)) a t ≡ false
-turn_apart r e a t s lt h = go (ranged (r.slot e)) refl
-  where
-    go : (x : Option (ℕ × ℕ)) → ranged (r.slot e) ≡ x → covers x a t ≡ false
-    go None p = refl
-    go (Some x) p =
-        let n = s.some e x.0 x.1 p in
-        let l = (s.place e x.0 (inside r e x.0 x.1 x.0 p (omega arith) n)).0 in
-        let k : apart (Some x) a t ≡ true = subst (λ x. apart x a t ≡ true) p (apart_at r.slot a t os_entry e h l) in
-        elim (cases_Bool (covers (Some x) a t)) [ inl z ↦ grind (arith, nat_tests) | inr z ↦ z ]
+turn_apart r e a t s lt h =
+    range_cases (λ x. covers x a t ≡ false) r e refl
+    (λ f u p.
+    let n = s.some e f u p in
+    let l = (s.place e f (inside r e f u f p (omega arith) n)).0 in
+    let k : apart (Some (f, u)) a t ≡ true = subst (λ x. apart x a t ≡ true) p (apart_at r.slot a t os_entry e h l) in
+    elim (cases_Bool (covers (Some (f, u)) a t)) [ inl z ↦ grind (arith, nat_tests) | inr z ↦ z ])
 
 -- below the end of the common page nothing is permitted to the running party alone
 low_covers : (r : Roll) (w : Party) (a t : ℕ) → Sound r → a < common_past → permits_turn r w a t ≡ false
 low_covers r Os a t s l = rw (lt-leb common_past a l)
-low_covers r (Enclave e) a t s l = go (ranged (r.slot e)) refl
-  where
-    go : (x : Option (ℕ × ℕ)) → ranged (r.slot e) ≡ x → covers x a t ≡ false
-    go None p = refl
-    go (Some x) p =
-        let n = s.some e x.0 x.1 p in
-        let k = (s.place e x.0 (inside r e x.0 x.1 x.0 p (omega arith) n)).1 in
-        rw (lt-leb x.0 a (omega arith))
+low_covers r (Enclave e) a t s l =
+    range_cases (λ x. covers x a t ≡ false) r e refl
+    (λ f u p.
+    let n = s.some e f u p in
+    let k = (s.place e f (inside r e f u f p (omega arith) n)).1 in
+    rw (lt-leb f a (omega arith)))
 
 -- the first two entries are no slots
 first_two : (r : Roll) (i a t : ℕ) → Sound r → i < first_slot → apart (ranged (r.slot i)) a t ≡ true
-first_two r i a t s l = go (ranged (r.slot i)) refl
-  where
-    go : (x : Option (ℕ × ℕ)) → ranged (r.slot i) ≡ x → apart x a t ≡ true
-    go None p = refl
-    go (Some x) p = let z = (s.shape i x.0 x.1 p).from_first in absurd (omega arith)
+first_two r i a t s l =
+    range_cases (λ x. apart x a t ≡ true) r i refl (λ f u p. let z = (s.shape i f u p).from_first in absurd (omega arith))
 
 -- the last entry, open, lets every access do what it asks for
 last_opened : (k : Kind) (a t : ℕ) → a < t → t ≤ 2 ^ 34
@@ -306,7 +285,7 @@ module _ (l : List Entry) (r : Roll) (s : Sound r) (b : Held l r) (small : r.siz
         | inl m ↦
             let met : meets (Some (0, 4096)) (a, t) ≡ true = grind (arith, nat_tests) in
             first ∙ rw (met, low_rank r.turn, right_slot k false, low_covers r r.turn a t s (omega arith), lt-leb 4096 a m)
-            (and_false (covers_span (Some (0, 4096)) (a, t)) ∙ sym (ap (λ x. x || false) (and_false (not (eqb (kind_number k) 2)))))
+            (and-false (covers_span (Some (0, 4096)) (a, t)) ∙ sym (ap (λ x. x || false) (and-false (not (eqb (kind_number k) 2)))))
         | inr m ↦
             let past : meets (Some (0, 4096)) (a, t) ≡ false = grind (arith, nat_tests) in
             elim (cases_lt a 8192) [
@@ -321,7 +300,7 @@ module _ (l : List Entry) (r : Roll) (s : Sound r) (b : Held l r) (small : r.siz
                   and_from (apart (ranged (r.slot 1)) a t) (apart_below r.slot a t 1) (first_two r 1 a t s (omega arith))
                   (and_from (apart (ranged (r.slot 0)) a t) true (first_two r 0 a t s (omega arith)) refl) in
                   first ∙ rw past (second ∙ rw (past_1, lt-leb t 8192 (omega arith))
-                  (loop 13 2 refl (omega arith) n two ∙ rw (and_false (leb 4096 a), and_false (not (eqb (kind_number k) 2)))))
+                  (loop 13 2 refl (omega arith) n two ∙ rw (and-false (leb 4096 a), and-false (not (eqb (kind_number k) 2)))))
             ]
       ]
 
@@ -338,9 +317,9 @@ chain : (asked : Result (Unit {0}) Refusal) (kinds : Result Kind Refusal) (span 
       | Err e ↦ Err e
     ]) (Ok (judge k s))
 chain (Ok _) (Ok m) (Ok u) judge k s a b c = let e : m ≡ k = cc in let d : u ≡ s = cc in cc
-chain (Ok _) (Ok m) (Err x) judge k s a b c = let z : ◌≡◌ {A = ℕ} 0 1 = cc in absurd (omega arith)
-chain (Ok _) (Err x) span judge k s a b c = let z : ◌≡◌ {A = ℕ} 0 1 = cc in absurd (omega arith)
-chain (Err x) kinds span judge k s a b c = let z : ◌≡◌ {A = ℕ} 0 1 = cc in absurd (omega arith)
+chain (Ok _) (Ok m) (Err x) judge k s a b c = cc
+chain (Ok _) (Err x) span judge k s a b c = cc
+chain (Err x) kinds span judge k s a b c = cc
 
 known : (k : Kind) → kind_asked (kind_number k) ≡ Ok k
 known Fetch = refl
@@ -390,9 +369,6 @@ ranked : (w : Party) → is_privilege (rank w) ≡ true
 ranked Os = refl
 ranked (Enclave e) = refl
 
-some_size : (n : ℕ) → is_size n ≡ true → 0 < n
-some_size n h = grind (arith, nat_tests)
-
 module _ (l : List Entry) (r : Roll) (s : Sound r) (b : Held l r) (small : r.size ≤ 2 ^ 34)
     (kind a n : ℕ) (known_kind : kind ≤ 2) (known-size : is_size n ≡ true) (top : a + n ≤ 2 ^ 34) where
   -- the verdict on a well-formed access, with the cause of a fault
@@ -401,7 +377,7 @@ module _ (l : List Entry) (r : Roll) (s : Sound r) (b : Held l r) (small : r.siz
     where
       go : (k : Kind) × (kind ≡ kind_number k) → Shown (permits r kind a (a + n)) (cause_of kind) (verdict_of l (rank r.turn) kind a n)
       go (k, e) =
-          let some = some_size n known-size in
+          let some = size_pos n known-size in
           let v : Result Verdict Refusal = Ok (judged l (rank r.turn) k (a, a + n) (deciding l (a, a + n))) in
           let d : verdict_of l (rank r.turn) (kind_number k) a n ≡ v =
           judgement l (rank r.turn) k a n (ranked r.turn) known-size (le-leb (a + n) end top) in
@@ -421,7 +397,7 @@ module _ (l : List Entry) (r : Roll) (s : Sound r) (b : Held l r) (small : r.siz
     where
       go : (x : Bool) (v : Result Verdict Refusal) → Shown x (cause_of kind) v
           → access_answer v bs kind a n
-          ≡ cond x (cond (leb (a + n) (length bs)) (Done (accessed bs kind a n)) (Fault Memory (cause_of kind))) (Fault Protection (cause_of kind))
+          ≡ cond x (cond (leb (a + n) (length bs)) (Ok (accessed bs kind a n)) (Err (Fault Memory (cause_of kind)))) (Err (Fault Protection (cause_of kind)))
       go true v (o, e) = ap (λ v. access_answer v bs kind a n) e
       go false v (o, e) = ap (λ v. access_answer v bs kind a n) e
 

@@ -1,19 +1,19 @@
 -- slot e's view of the memory: two machines that agree in its range and in the common page
-use Rattle.std.proofs.Common.{◌≡◌, ℕ, pred, ◌+◌, ◌<◌, ◌≤◌, true, false, not, ◌&&◌, ◌||◌, eqb, leb, ◌⊎◌, List, length, get_or, Some, Ok, Err, Result, sym, refl, ap, ◌∙◌, inl, inr, arith}
-use Rattle.std.proofs.lemmas.Bool.{and_parts, both_ways, eq-eqb, le-leb, leb-true, or_cases}
+use Rattle.std.proofs.Common.{◌≡◌, ℕ, pred, ◌+◌, ◌<◌, ◌≤◌, true, false, ◌&&◌, ◌||◌, leb, ◌⊎◌, List, length, get_or, Some, Err, sym, refl, ap, ◌∙◌, inl, inr, arith}
+use Rattle.std.proofs.lemmas.Bool.{both_ways, eq-eqb, le-leb, or_cases}
+use Rattle.std.proofs.lemmas.Bool.Decides.{nat_tests}
 use Rattle.refusals.specs.Questions.{ruled}
-use Rattle.refusals.specs.declared.Refusal.{Refusal}
 use Rattle.monitor.specs.Layout.{common_first, common_past, starts}
 use Rattle.monitor.specs.Roll.{Accepted, Roll, hands_back, judges, next, only, questions, within}
 use Rattle.monitor.specs.Slots.{os_runs, ranged}
 use Rattle.monitor.specs.Theorem.{Agree, Between}
-use Rattle.monitor.specs.declared.answer.Answer.TheVariants.{Refused}
+use Rattle.monitor.specs.declared.answer.Denial.TheVariants.{Refused}
 use Rattle.monitor.specs.declared.call.Call.{Call}
-use Rattle.monitor.specs.declared.call.Call.TheVariants.{Create, Enter, Pause, Finish, Destroy, Access, Register}
+use Rattle.monitor.specs.declared.call.Call.TheVariants.{Pause, Finish, Destroy, Access, Register}
 use Rattle.monitor.specs.declared.slot.Party.TheVariants.{Enclave}
-use Rattle.monitor.proofs.Access.{access_agree, access_same}
+use Rattle.monitor.proofs.Access.{access_agree, access_same, common_parts}
 use Rattle.monitor.proofs.Plain.{accepted_answer, accepted_bytes, common, covers, permits, permits_turn, plain_after, plain_answer}
-use Rattle.monitor.proofs.Rolls.{AllYes, all_yes, next_ranged, next_size, next_sound, ranged_in, starts_big}
+use Rattle.monitor.proofs.Rolls.{AllYes, all_yes, next_ranged, next_size, next_sound, inside, ruled_pair, starts_big}
 use Rattle.monitor.proofs.Sound.{Sound}
 use Rattle.monitor.proofs.Steps.{belongs_past, bytes_stay, inside_roll, length_after, own_turn, unseen_by, without}
 
@@ -48,7 +48,7 @@ view_out e f t r q xs ys c h d v =
       starts_x = ap starts z ∙ v.starts_x;
       starts_y = v.starts_y;
       range = λ p w.
-          let mine = ranged_in (ranged (r.slot e)) f t p v.range_x w.0 w.1 in
+          let mine = inside r e f t p v.range_x w.0 w.1 in
           bytes_stay r xs c p v.sound_x v.len_x
           (λ k b. unseen_by r r.turn (only e) e p v.sound_x (eq-eqb e e refl) (without (only e) r c h k) b mine)
           (λ s k y g. d (k ∙ ap Destroy (v.sound_x.one s e p g mine)) y)
@@ -72,27 +72,22 @@ permits_inside r e f u kind a t h k =
 reach : (f u kind a t : ℕ) → (common kind a t || (leb f a && leb t u)) ≡ true → ((f ≤ a) × (t ≤ u)) ⊎ ((common_first ≤ a) × (t ≤ common_past))
 reach f u kind a t h =
     elim (or_cases (common kind a t) (leb f a && leb t u) h) [
-      | inl w ↦
-          let x = (and_parts (not (eqb kind 2)) (leb common_first a && leb t common_past) w).1 in
-          let y = and_parts (leb common_first a) (leb t common_past) x in
-          inr (leb-true common_first a y.0, leb-true t common_past y.1)
-      | inr w ↦ let y = and_parts (leb f a) (leb t u) w in inl (leb-true f a y.0, leb-true t u y.1)
+      | inl w ↦ let x = common_parts kind a t w in inr (x.1, x.2)
+      | inr w ↦ inl (grind (arith, nat_tests))
     ]
 
 pub range_fits : (r : Roll) (e f u : ℕ) → Sound r → ranged (r.slot e) ≡ Some (f, u) → u ≤ r.size
 range_fits r e f u s h =
     let l = s.some e f u h in
-    let z = (s.place e (pred u) (ranged_in (ranged (r.slot e)) f u (pred u) h (omega arith) (omega arith))).2 in omega arith
+    let z = (s.place e (pred u) (inside r e f u (pred u) h (omega arith) (omega arith))).2 in omega arith
 
 inside_judges : (r q : Roll) (e : ℕ) (c : Call) → r.turn ≡ Enclave e → q.turn ≡ Enclave e → starts r.size ≡ true → starts q.size ≡ true
     → hands_back c ≡ false → judges r c ≡ judges q c
-inside_judges r q e (Create s b k) h g i j n = rw (h, g, i, j)
-inside_judges r q e (Enter s) h g i j n = rw (h, g, i, j)
-inside_judges r q e Pause h g i j n = absurd (both_ways true n refl)
-inside_judges r q e (Finish w) h g i j n = absurd (both_ways true n refl)
-inside_judges r q e (Destroy s) h g i j n = rw (h, g, i, j)
+inside_judges r q e Pause h g i j n = cc
+inside_judges r q e (Finish w) h g i j n = cc
 inside_judges r q e (Access k a n v) h g i j _ = rw (i, j)
 inside_judges r q e (Register n w) h g i j _ = rw (i, j)
+inside_judges r q e _ h g i j n = rw (h, g, i, j)
 
 module _ (e f t : ℕ) (r q : Roll) (xs ys : List ℕ) (turn-x : r.turn ≡ Enclave e) (v : View e f t r q xs ys) where
   same_permits : (kind a u : ℕ) → permits r kind a u ≡ permits q kind a u
@@ -111,14 +106,9 @@ module _ (e f t : ℕ) (r q : Roll) (xs ys : List ℕ) (turn-x : r.turn ≡ Encl
 
   pub view_answer : (c : Call) → hands_back c ≡ false → plain_answer r xs c ≡ plain_answer q ys c
   unfolding plain_answer
-  view_answer c h = rw (← inside_judges r q e c turn-x v.turn_y v.starts_x v.starts_y h) (go (judges r c))
+  view_answer c h = rw (← inside_judges r q e c turn-x v.turn_y v.starts_x v.starts_y h) (ap (λ x. ruled (judges r c) x (λ e. Err (Refused e))) (acc c))
     where
       acc : (c : Call) → accepted_answer r xs c ≡ accepted_answer q ys c
-      acc (Create s b k) = refl
-      acc (Enter s) = refl
-      acc Pause = refl
-      acc (Finish w) = refl
-      acc (Destroy s) = refl
       acc (Access k a n w) =
           access_same r q xs ys k a n (same_permits k a (a + n)) (both_fit k a (a + n))
           (λ h _ p l m.
@@ -126,30 +116,20 @@ module _ (e f t : ℕ) (r q : Roll) (xs ys : List ℕ) (turn-x : r.turn ≡ Encl
             | inl z ↦ v.range p (let z0 = z.0 in omega arith, let z1 = z.1 in omega arith)
             | inr z ↦ v.page p (let z0 = z.0 in omega arith, let z1 = z.1 in omega arith)
           ])
-      acc (Register n w) = refl
-
-      go : (x : Result (Unit {0}) Refusal) → ruled x (accepted_answer r xs c) Refused ≡ ruled x (accepted_answer q ys c) Refused
-      go (Ok _) = acc c
-      go (Err n) = refl
+      acc _ = refl
 
   view_bytes : (c : Call) (p : ℕ) → hands_back c ≡ false → p < length xs → p < length ys → get_or xs p 0 ≡ get_or ys p 0
       → get_or (plain_after r xs c) p 0 ≡ get_or (plain_after q ys c) p 0
   unfolding plain_after
-  view_bytes c p h lx ly e = rw (← inside_judges r q _ c turn-x v.turn_y v.starts_x v.starts_y h) (go (judges r c) refl)
+  view_bytes c p h lx ly e =
+      rw (← inside_judges r q _ c turn-x v.turn_y v.starts_x v.starts_y h)
+      (ruled_pair (λ (k m : List ℕ). get_or k p 0 ≡ get_or m p 0) (judges r c) (accepted_bytes r xs c) (accepted_bytes q ys c) (λ _. xs) (λ _. ys)
+      (λ z. acc c (all_yes (questions r c) z)) (λ _ _. e))
     where
       acc : (d : Call) → AllYes (questions r d) → get_or (accepted_bytes r xs d) p 0 ≡ get_or (accepted_bytes q ys d) p 0
-      acc (Create s b k) y = e
-      acc (Enter s) y = e
-      acc Pause y = e
-      acc (Finish w) y = e
       acc (Destroy s) y = absurd (both_ways (os_runs r.turn) (ap os_runs turn-x) y.1.1.0)
       acc (Access k a n w) y = access_agree r q xs ys k a n w p (same_permits k a (a + n)) (both_fit k a (a + n)) lx ly e
-      acc (Register n w) y = e
-
-      go : (x : Result (Unit {0}) Refusal) → judges r c ≡ x
-          → get_or (ruled x (accepted_bytes r xs c) (λ _. xs)) p 0 ≡ get_or (ruled x (accepted_bytes q ys c) (λ _. ys)) p 0
-      go (Ok _) z = acc c (all_yes (questions r c) z)
-      go (Err n) z = e
+      acc _ y = e
 
   pub view_in : (c : Call) → within (only e) r c ≡ true → within (only e) q c ≡ true
       → View e f t (next r c) (next q c) (plain_after r xs c) (plain_after q ys c)

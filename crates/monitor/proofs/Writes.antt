@@ -10,22 +10,8 @@ use Rattle.monitor.specs.Layout.{first_slot, opened, os_entry, shut}
 use Rattle.monitor.specs.Roll.{Roll, only, runs_in, start}
 use Rattle.monitor.specs.Slots.{ranged}
 use Rattle.monitor.specs.declared.slot.Party.{Party}
-use Rattle.monitor.proofs.Held.{Held, entry, slot_entry, system_entry}
+use Rattle.monitor.proofs.Held.{But, Held, entry, slot_entry}
 use Rattle.monitor.proofs.Verdicts.{unlocked_byte}
-
--- the bank as it should be, but for the last entry, which is z
-pub record But (z : Entry) (l : List Entry) (r : Roll) : Type 0 where
-  pub len : length l ≡ count
-  pub monitor : entry_of l 0 ≡ entry shut 0x1FF
-  pub shared : entry_of l 1 ≡ entry 0x9D 0x5FF
-  pub slot : (i : ℕ) → first_slot ≤ i → i < os_entry → entry_of l i ≡ slot_entry r.turn i (ranged (r.slot i))
-  pub last : entry_of l os_entry ≡ z
-
-pub held_but : (l : List Entry) (r : Roll) → Held l r → But (system_entry r.turn) l r
-held_but l r h = record { len = h.len; monitor = h.monitor; shared = h.shared; slot = h.slot; last = h.last }
-
-pub but_held : (z : Entry) (l : List Entry) (r : Roll) → z ≡ system_entry r.turn → But z l r → Held l r
-but_held z l r e h = record { len = h.len; monitor = h.monitor; shared = h.shared; slot = h.slot; last = h.last ∙ e }
 
 -- The new bank.
 

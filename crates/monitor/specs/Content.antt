@@ -11,8 +11,8 @@ use Rattle.monitor.specs.Layout.{common_word, machine, monitor_word, opened, os_
 use Rattle.monitor.specs.Roll.{Roll, judges}
 use Rattle.monitor.specs.Slots.{moved, ranged}
 use Rattle.monitor.specs.Theorem.{System}
-use Rattle.monitor.specs.declared.answer.Answer.{Answer}
-use Rattle.monitor.specs.declared.answer.Answer.TheVariants.{Done, Fault, Refused}
+use Rattle.monitor.specs.declared.answer.Denial.{Denial}
+use Rattle.monitor.specs.declared.answer.Denial.TheVariants.{Fault, Refused}
 use Rattle.monitor.specs.declared.answer.Layer.TheVariants.{Protection, Memory}
 use Rattle.monitor.specs.declared.call.Call.{Call}
 use Rattle.monitor.specs.declared.call.Call.TheVariants.{Create, Enter, Pause, Finish, Destroy, Access, Register}
@@ -81,10 +81,10 @@ abbrev pub cause_of : ℕ → ℕ
 cause_of kind = elim (kind_of kind) [ Some k ↦ fault_cause k | None ↦ 0 ]
 
 -- the verdict, then the memory's end, then the bytes
-abbrev pub access_answer : Result Verdict Refusal → List ℕ → ℕ → ℕ → ℕ → Answer
-access_answer (Ok (Allowed _)) bs kind a n = cond (nat_le (a + n) (length bs)) (Done (accessed bs kind a n)) (Fault Memory (cause_of kind))
-access_answer (Ok (VerdictFault _ cause)) bs kind a n = Fault Protection cause
-access_answer (Err e) bs kind a n = Refused e
+abbrev pub access_answer : Result Verdict Refusal → List ℕ → ℕ → ℕ → ℕ → Result ℕ Denial
+access_answer (Ok (Allowed _)) bs kind a n = cond (nat_le (a + n) (length bs)) (Ok (accessed bs kind a n)) (Err (Fault Memory (cause_of kind)))
+access_answer (Ok (VerdictFault _ cause)) bs kind a n = Err (Fault Protection cause)
+access_answer (Err e) bs kind a n = Err (Refused e)
 
 abbrev pub access_bytes : Result Verdict Refusal → List ℕ → ℕ → ℕ → ℕ → ℕ → List ℕ
 access_bytes v bs kind a n value = cond (is_allowed v && nat_le (a + n) (length bs)) (stored bs kind a n value) bs
@@ -125,14 +125,10 @@ halts event m (Enclave e) = record {
   bytes = m.bytes;
 }
 
-abbrev pub reply : Content → Call → Answer
-reply m (Create s b k) = Done 0
-reply m (Enter s) = Done 0
-reply m Pause = Done 0
-reply m (Finish w) = Done w
-reply m (Destroy s) = Done 0
+abbrev pub reply : Content → Call → Result ℕ Denial
+reply m (Finish w) = Ok w
 reply m (Access kind a n v) = access_answer (verdict_of m.bank m.privilege kind a n) m.bytes kind a n
-reply m (Register n w) = Done 0
+reply m _ = Ok 0
 
 abbrev pub act : Content → Call → Content
 act m (Create s b k) = record {
@@ -163,14 +159,14 @@ act m (Register n w) = m
 
 -- Any call: its questions are put to the machine's own roll.
 
-abbrev pub call_answer : Content → Call → Answer
-call_answer m c = ruled (judges (roll_of m) c) (reply m c) Refused
+abbrev pub call_answer : Content → Call → Result ℕ Denial
+call_answer m c = ruled (judges (roll_of m) c) (reply m c) (λ e. Err (Refused e))
 
 abbrev pub call_after : Content → Call → Content
 call_after m c = ruled (judges (roll_of m) c) (act m c) (λ _. m)
 
 -- the same, shut: a run of calls is spoken of without what each of them does
-unfoldable pub answer : Content → Call → Answer
+unfoldable pub answer : Content → Call → Result ℕ Denial
 answer m c = call_answer m c
 
 unfoldable pub after : Content → Call → Content

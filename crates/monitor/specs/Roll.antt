@@ -142,13 +142,9 @@ only e i = i == e
 
 -- pause and finish
 abbrev pub hands_back : Call → Bool
-hands_back (Create s b k) = false
-hands_back (Enter s) = false
 hands_back Pause = true
 hands_back (Finish w) = true
-hands_back (Destroy s) = false
-hands_back (Access k a n v) = false
-hands_back (Register n w) = false
+hands_back _ = false
 
 -- the call is made while a slot of the set runs, and is neither pause nor finish
 abbrev pub within : (ℕ → Bool) → Roll → Call → Bool

@@ -17,10 +17,7 @@ ranged (Finished r) = Some r
 
 abbrev pub is_free : Slot → Bool
 is_free Free = true
-is_free (Fresh _) = false
-is_free (Running _) = false
-is_free (Stopped _) = false
-is_free (Finished _) = false
+is_free _ = false
 
 abbrev pub is_unfinished : Slot → Bool
 is_unfinished Free = false
@@ -30,11 +27,8 @@ is_unfinished (Stopped _) = true
 is_unfinished (Finished _) = false
 
 abbrev pub is_running : Slot → Bool
-is_running Free = false
-is_running (Fresh _) = false
 is_running (Running _) = true
-is_running (Stopped _) = false
-is_running (Finished _) = false
+is_running _ = false
 
 -- a live slot brought to a stage, with its range
 abbrev pub restaged : (ℕ × ℕ → Slot) → Slot → Slot
@@ -47,30 +41,14 @@ restaged stage (Finished r) = stage r
 -- what a stage and an event make of a slot, or none where they do not go together
 abbrev pub next_slot : Slot → Event → Option Slot
 next_slot Free (Create r) = Some (Fresh r)
-next_slot Free Enter = None
-next_slot Free Pause = None
-next_slot Free Finish = None
-next_slot Free Destroy = None
-next_slot (Fresh r) (Create _) = None
 next_slot (Fresh r) Enter = Some (Running r)
-next_slot (Fresh r) Pause = None
-next_slot (Fresh r) Finish = None
-next_slot (Fresh r) Destroy = Some Free
-next_slot (Running r) (Create _) = None
-next_slot (Running r) Enter = None
+next_slot (Fresh _) Destroy = Some Free
 next_slot (Running r) Pause = Some (Stopped r)
 next_slot (Running r) Finish = Some (Finished r)
-next_slot (Running r) Destroy = None
-next_slot (Stopped r) (Create _) = None
 next_slot (Stopped r) Enter = Some (Running r)
-next_slot (Stopped r) Pause = None
-next_slot (Stopped r) Finish = None
-next_slot (Stopped r) Destroy = Some Free
-next_slot (Finished r) (Create _) = None
-next_slot (Finished r) Enter = None
-next_slot (Finished r) Pause = None
-next_slot (Finished r) Finish = None
-next_slot (Finished r) Destroy = Some Free
+next_slot (Stopped _) Destroy = Some Free
+next_slot (Finished _) Destroy = Some Free
+next_slot _ _ = None
 
 -- the slot after an event: where they do not go together it stays
 abbrev pub moved : Slot → Event → Slot

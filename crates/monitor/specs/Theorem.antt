@@ -1,11 +1,11 @@
 -- An enclave is closed off: a property of any kind of machine, in terms of its answers, its memory's bytes and the roll.
 -- It holds over every list of bytes: where that starts no machine, no call is accepted.
-use Rattle.std.specs.Prelude.{◌≡◌, ℕ, ◌+◌, ◌^◌, ◌<◌, ◌≤◌, Bool, true, cond, List, [], ◌∷◌, map, length, Err, Result, ◌≢◌, slice_index}
+use Rattle.std.specs.Prelude.{◌≡◌, ℕ, ◌+◌, ◌^◌, ◌<◌, ◌≤◌, Bool, true, cond, List, [], ◌∷◌, map, length, Err, Result, ◌≢◌, slice_index, Ok}
 use Rattle.monitor.specs.Bytes.{accessed, stored}
 use Rattle.monitor.specs.Layout.{common_first, common_past}
 use Rattle.monitor.specs.Roll.{Accepted, Holds, May, Roll, judges, next, only, rolled, start, within}
-use Rattle.monitor.specs.declared.answer.Answer.{Answer}
-use Rattle.monitor.specs.declared.answer.Answer.TheVariants.{Done, Fault, Refused}
+use Rattle.monitor.specs.declared.answer.Denial.{Denial}
+use Rattle.monitor.specs.declared.answer.Denial.TheVariants.{Fault, Refused}
 use Rattle.monitor.specs.declared.answer.Layer.{Layer}
 use Rattle.monitor.specs.declared.call.Call.{Call}
 use Rattle.monitor.specs.declared.call.Call.TheVariants.{Create, Destroy, Access}
@@ -16,13 +16,13 @@ use Rattle.refusals.specs.declared.Refusal.{Refusal}
 pub record System : Type 1 where
   pub Machine : Type 0
   pub make : List ℕ → Machine
-  pub answer : Machine → Call → Answer
+  pub answer : Machine → Call → Result ℕ Denial
   pub after : Machine → Call → Machine
   pub bytes : Machine → List ℕ
 
 -- calls with their answers, in the order of the calls
 abbrev pub Log : Type 0
-Log = List (Call × Answer)
+Log = List (Call × Result ℕ Denial)
 
 abbrev pub calls : Log → List Call
 calls = map (λ s. s.0)
@@ -51,10 +51,10 @@ Lasts e r [] = Unit {0}
 Lasts e r (c ∷ cs) = (c ≡ Destroy e → judges r c ≢ Accepted) × Lasts e (next r c) cs
 
 -- how an answer judges its call
-abbrev pub judged_by : Answer → Result (Unit {0}) Refusal
-judged_by (Done w) = Accepted
-judged_by (Fault l n) = Accepted
-judged_by (Refused e) = Err e
+abbrev pub judged_by : Result ℕ Denial → Result (Unit {0}) Refusal
+judged_by (Ok w) = Accepted
+judged_by (Err (Fault l n)) = Accepted
+judged_by (Err (Refused e)) = Err e
 
 -- two memories have the same byte at each place with a property
 abbrev pub Agree : List ℕ → List ℕ → (ℕ → Type 0) → Type 0
@@ -98,7 +98,7 @@ pub record ClosedOff (S : System) : Type 0 where
   pub carried_out : (bs : List ℕ) (cs : List Call) (kind a n v : ℕ)
       → let r = rolled (start (length bs)) cs in let m = ran S (S.make bs) cs in let c = Access kind a n v in
       judges r c ≡ Accepted
-      → (May r kind a n → (S.answer m c ≡ Done (accessed (S.bytes m) kind a n)) × (S.bytes (S.after m c) ≡ stored (S.bytes m) kind a n v))
-      × (((w : ℕ) × (S.answer m c ≡ Done w)) → May r kind a n)
+      → (May r kind a n → (S.answer m c ≡ Ok (accessed (S.bytes m) kind a n)) × (S.bytes (S.after m c) ≡ stored (S.bytes m) kind a n v))
+      × (((w : ℕ) × (S.answer m c ≡ Ok w)) → May r kind a n)
       × ((May r kind a n → ⊥)
-      → ((layer : Layer) × (cause : ℕ) × (S.answer m c ≡ Fault layer cause)) × (S.bytes (S.after m c) ≡ S.bytes m))
+      → ((layer : Layer) × (cause : ℕ) × (S.answer m c ≡ Err (Fault layer cause))) × (S.bytes (S.after m c) ≡ S.bytes m))

@@ -1,5 +1,5 @@
 // One call on a machine, with its arguments: any numbers.
-#[derive(Clone, Copy)]
+#[derive(Clone, Copy, Debug, PartialEq, Eq)]
 pub enum Call {
     Create {
         slot: u64,
@@ -16,6 +16,7 @@ pub enum Call {
     Destroy {
         slot: u64,
     },
+    // Four numbers and not a struct: the laws name an access by its numbers, as every call.
     Access {
         kind: u64,
         address: u64,

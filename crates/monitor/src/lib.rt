@@ -6,6 +6,6 @@ mod answer;
 mod call;
 mod slot;
 
-pub use answer::{Answer, Layer};
+pub use answer::{Answer, Denial, Layer};
 pub use call::Call;
 pub use slot::{Event, Party, Slot};

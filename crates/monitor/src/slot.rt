@@ -3,7 +3,7 @@ ghost use Rattle.monitor.specs.Slots.{ranged};
 ghost use Rattle.std.specs.Prelude.{◌≡◌};
 
 // A slot by its stage; all but a free one have a range: its first byte, and the one after its last.
-#[derive(Clone, Copy)]
+#[derive(Clone, Copy, Debug, PartialEq, Eq)]
 pub enum Slot {
     Free,
     Fresh((u64, u64)),
@@ -18,16 +18,16 @@ impl Slot {
     {
         match self {
             Slot::Free => None,
-            Slot::Fresh(range) => Some(range),
-            Slot::Running(range) => Some(range),
-            Slot::Stopped(range) => Some(range),
-            Slot::Finished(range) => Some(range),
+            Slot::Fresh(range)
+            | Slot::Running(range)
+            | Slot::Stopped(range)
+            | Slot::Finished(range) => Some(range),
         }
     }
 }
 
 // What happens to a slot.
-#[derive(Clone, Copy)]
+#[derive(Clone, Copy, Debug, PartialEq, Eq)]
 pub enum Event {
     Create((u64, u64)),
     Enter,
@@ -36,8 +36,9 @@ pub enum Event {
     Destroy,
 }
 
-// Who runs: the operating system, or the enclave of a slot.
-#[derive(Clone, Copy)]
+// Who runs: the operating system, or the enclave of a slot. Not an Option of a slot: the theorem
+// speaks of parties by name, and none of them is nobody.
+#[derive(Clone, Copy, Debug, PartialEq, Eq)]
 pub enum Party {
     Os,
     Enclave(u64),

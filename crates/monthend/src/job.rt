@@ -1,5 +1,5 @@
 // A union's job: drafts are matched with the ledger, line by line, in an enclave.
-use crate::outcome::{Outcome, value};
+use crate::outcome::Outcome;
 use anyhow::Context;
 use machine::Machine;
 use memory::Memory;
@@ -40,9 +40,7 @@ pub(crate) fn prepare<M: Memory>(
     machine: &mut Machine<M>,
     job: Job,
 ) -> anyhow::Result<()> {
-    for line in 0..LINES {
-        let draft = job.drafts[line as usize];
-        let entry = job.ledger[line as usize];
+    for (line, (draft, entry)) in (0..LINES).zip(job.drafts.into_iter().zip(job.ledger)) {
         put(machine, job.place(0, line), draft).context("a draft was not stored")?;
         put(machine, job.place(LEDGER, line), entry).context("a ledger line was not stored")?;
     }
@@ -151,21 +149,18 @@ pub(crate) fn clear_away<M: Memory>(
     let Job { name, slot, .. } = job;
     let destroyed = Outcome(machine.destroy(u64::from(slot)));
     let words = 1u32 << EXPONENT >> 3;
-    let mut zeros = 0u32;
-    for line in 0..words {
-        if get(machine, job.place(0, line)) == Some(0) {
-            zeros = zeros.saturating_add(1);
-        }
-    }
+    let zeros = (0..words)
+        .filter(|&line| get(machine, job.place(0, line)) == Some(0))
+        .count();
     println!(rt; "\nTo destroy slot {slot} {destroyed}.")?;
     println!(rt; "Of the {words} words in the range of {name}, {zeros} are zero.")?;
     Ok(())
 }
 
 fn get<M: Memory>(machine: &mut Machine<M>, place: u64) -> Option<u64> {
-    value(machine.access(LOAD, place, 8, 0))
+    machine.access(LOAD, place, 8, 0).ok()
 }
 
 fn put<M: Memory>(machine: &mut Machine<M>, place: u64, word: u64) -> Option<u64> {
-    value(machine.access(STORE, place, 8, word))
+    machine.access(STORE, place, 8, word).ok()
 }

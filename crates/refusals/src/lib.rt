@@ -5,63 +5,57 @@
 ghost use Rattle.refusals.specs.Numbers.{refusal_number};
 ghost use Rattle.std.specs.Prelude.{◌≡◌};
 
-#[derive(Clone, Copy)]
+use std::fmt;
+
+#[derive(Clone, Copy, Debug, PartialEq, Eq)]
 pub enum Refusal {
     // protection registers and verdicts
-    Privilege,
-    NotMachine,
-    NoRegister,
-    Kind,
-    Size,
-    Span,
+    Privilege = 21,
+    NotMachine = 22,
+    NoRegister = 23,
+    Kind = 24,
+    Size = 25,
+    Span = 26,
     // machine and slots
-    NotStarted,
-    NoSlot,
-    OsNotRunning,
-    SlotTaken,
-    Exponent,
-    Alignment,
-    BeyondMemory,
-    Overlap,
-    SlotFree,
-    Finished,
-    NoEnclave,
+    NotStarted = 27,
+    NoSlot = 28,
+    OsNotRunning = 29,
+    SlotTaken = 30,
+    Exponent = 31,
+    Alignment = 32,
+    BeyondMemory = 33,
+    Overlap = 34,
+    SlotFree = 35,
+    Finished = 36,
+    NoEnclave = 37,
     // tapes
-    PartialRecord,
-    Operation,
-    Fields,
-    NoPlace,
+    PartialRecord = 38,
+    Operation = 39,
+    Fields = 40,
+    NoPlace = 41,
     // memories
-    MemoryLength,
+    MemoryLength = 42,
 }
 
 impl Refusal {
     pub fn number(self) -> u8
         ensures { result ≡ refusal_number self }
     {
-        match self {
-            Refusal::Privilege => 21,
-            Refusal::NotMachine => 22,
-            Refusal::NoRegister => 23,
-            Refusal::Kind => 24,
-            Refusal::Size => 25,
-            Refusal::Span => 26,
-            Refusal::NotStarted => 27,
-            Refusal::NoSlot => 28,
-            Refusal::OsNotRunning => 29,
-            Refusal::SlotTaken => 30,
-            Refusal::Exponent => 31,
-            Refusal::Alignment => 32,
-            Refusal::BeyondMemory => 33,
-            Refusal::Overlap => 34,
-            Refusal::SlotFree => 35,
-            Refusal::Finished => 36,
-            Refusal::NoEnclave => 37,
-            Refusal::PartialRecord => 38,
-            Refusal::Operation => 39,
-            Refusal::Fields => 40,
-            Refusal::NoPlace => 41,
-            Refusal::MemoryLength => 42,
-        }
+        self as u8
+    }
+}
+
+// A refusal is told by its number.
+impl fmt::Display for Refusal {
+    ghost use Rattle.refusals.specs.Numbers.{refusal_number};
+    ghost use Rattle.std.specs.Prelude.{Some};
+    ghost use Rattle.std.specs.Fmt.{decimal, styled_decimal};
+
+    ghost output = { λ r. Some (decimal (refusal_number r)) };
+
+    ghost styled_output = { λ r s. Some (styled_decimal s (refusal_number r)) };
+
+    fn fmt<W: fmt::Write>(&self, f: &mut fmt::Formatter<W>) -> fmt::Result {
+        self.number().fmt(f)
     }
 }

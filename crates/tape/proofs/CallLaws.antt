@@ -1,13 +1,17 @@
 -- an item that is accepted and its call determine one another
-use Rattle.std.proofs.Common.{◌≡◌, ℕ, ◌-◌, ◌^◌, ◌<◌, ◌≤◌, true, Ok, Err, sym, refl, ap, ◌∙◌, subst, arith}
+use Rattle.std.proofs.Common.{◌≡◌, ℕ, ◌-◌, ◌^◌, ◌<◌, ◌≤◌, true, Some, None, Ok, Err, sym, refl, ap, ◌∙◌, subst, arith}
 use Rattle.monitor.specs.declared.call.Call.{Call}
 use Rattle.monitor.specs.declared.call.Call.TheVariants.{Create, Enter, Pause, Finish, Destroy, Access, Register}
 use Rattle.refusals.specs.Questions.{ruled, ruling}
+use Rattle.refusals.specs.declared.Refusal.TheVariants.{Fields}
 use Rattle.std.proofs.lemmas.Bool.Decides.{nat_tests}
 use Rattle.tape.proofs.Records.{accepted, accepted_fits, at, by_operation, item_passed, under}
 use Rattle.tape.specs.Calls.{call_of, item_of, meaning, numbers, operation_of, width_of}
 use Rattle.tape.specs.Item.{is_operation, item, item_questions, largest_of, within}
 use Rattle.tape.specs.Laws.{OneCall}
+use Rattle.tape.specs.Operation.{access_operation}
+use Rattle.tape.specs.Sizes.{width_of as size_width}
+use Rattle.tape.specs.declared.operation.Operation.{Operation}
 use Rattle.tape.specs.declared.item.Item.{Item}
 
 -- sizes and widths
@@ -84,6 +88,24 @@ meant (Access kind a n v) h =
     let f = accepted_fits i h in
     kinds kind p.0 a (width_of n) v ∙ ap (λ k. Access kind a k v) (size_back n f.0.width_fits)
 meant (Register n w) h = refl
+
+-- an access of a size that no width stands for
+no_such : (n : ℕ) → None ≡ size_width n → width_of n ≡ 4
+no_such n h = grind (arith, nat_tests)
+
+Wide : ℕ → Type 0
+Wide kind = (a n v : ℕ) → width_of n ≡ 4 → item_of (Access kind a n v) ≡ Err Fields
+
+wide : (kind : ℕ) (o : Operation) → Some o ≡ access_operation kind → Wide kind
+unfolding Wide largest_of
+wide kind o h =
+    at Wide 0 kind (λ a n v w. rw w refl) (λ n0. at Wide 1 kind (λ a n v w. rw w refl) (λ n1. at Wide 2 kind (λ a n v w. rw w refl) (λ n2.
+    let none : access_operation kind ≡ None = grind (arith, nat_tests) in
+    let z : ◌≡◌ {A = ℕ} 0 1 = cc in absurd (omega arith))))
+
+pub no_width : (kind a n v : ℕ) (o : Operation) → Some o ≡ access_operation kind → None ≡ size_width n → item_of (Access kind a n v) ≡ Err Fields
+unfolding Wide
+no_width kind a n v o k w = wide kind o k a n v (no_such n w)
 
 call_back : (c : Call) (i : Item) → item_of c ≡ Ok i → call_of i ≡ Ok c
 call_back c i h =

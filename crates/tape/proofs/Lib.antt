@@ -1,8 +1,8 @@
 pub mod Packing
+pub mod Hex
 pub mod Records
 pub mod Parts
 pub mod Reading
-pub mod Writing
 pub mod Lines
 pub mod CallLaws
 pub mod Trips

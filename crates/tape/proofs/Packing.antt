@@ -102,7 +102,3 @@ bytes_of_number x (d ∷ ds) u =
     = rw up (omega (arith, number_from (0 * 256 + d) ds, add-mul (x * 256) d p, mul_assoc x 256 p, zero-mul 256, zero-add d)) in
     let top : ((x * 256 + d) * p + n) / p % 256 ≡ d = rw (digits_div (x * 256 + d) low) (omega (arith, u.0)) in
     rw whole (rw (top, bytes_of_number (x * 256 + d) ds u.1))
-
-pub length_bytes_of : (k n : ℕ) → length (bytes_of k n) ≡ k
-length_bytes_of zero n = refl
-length_bytes_of (suc k) n = ap suc (length_bytes_of k n)

@@ -1,41 +1,21 @@
 -- a list that is made one part after another in a buffer, or refused
-use Rattle.std.proofs.Common.{◌≡◌, ℕ, ◌+◌, ◌-◌, ◌<◌, ◌≤◌, true, List, [], ◌∷◌, ◌++◌, length, take, drop, set, is_ok, Ok, Err, Result, sym, refl, ap, ◌∙◌, arith}
+use Rattle.std.proofs.Common.{◌≡◌, ℕ, suc, ◌+◌, ◌-◌, ◌<◌, ◌≤◌, true, List, [], ◌∷◌, ◌++◌, length, get_or, take, drop, is_ok, Ok, Err, Result, sym, refl, ap, ◌∙◌, arith}
 use Rattle.refusals.specs.declared.Refusal.{Refusal}
-use Rattle.std.proofs.lemmas.List.{append_assoc, append-nil, drop-drop, drop-set-lt, length-take-le, take-append-drop, take_at, take_more_set}
+use Rattle.std.proofs.lemmas.List.{at_drop_more, append_assoc, drop-drop, take_at}
 use Rattle.std.proofs.lemmas.Slice.{take-put_mid, drop-put_mid}
-use Rattle.tape.specs.Refusal.{after, measured, placed, prepend, verdict}
+use Rattle.tape.specs.Refusal.{after, each, measured, placed, prepend, refused_at, verdict}
 use Rattle.tape.specs.declared.refusal.TapeRefusal.{TapeRefusal}
 use borrow.Rule.Slice.PartMut.{put_mid}
 
 module _ {X : Type 0} where
-  pub verdict_prepend : (xs : List X) (r : Result (List X) TapeRefusal) → verdict (prepend xs r) ≡ verdict r
-  verdict_prepend xs (Ok ys) = refl
-  verdict_prepend xs (Err e) = refl
-
   prepend_prepend : (xs ys : List X) (r : Result (List X) TapeRefusal) → prepend xs (prepend ys r) ≡ prepend (xs ++ ys) r
   prepend_prepend xs ys (Ok zs) = ap Ok (sym (append_assoc xs ys zs))
   prepend_prepend xs ys (Err e) = refl
 
-  pub passed : (r : Result (List X) TapeRefusal) → Ok tt ≡ verdict r → is_ok r ≡ true
-  passed (Ok xs) h = refl
-  passed (Err e) h = let z : ◌≡◌ {A = ℕ} 0 1 = cc in absurd (omega arith)
-
-  -- a loop puts one element more at the front of a buffer
-  pub front_more : (whole here rest : Result (List X) TapeRefusal) (items old : List X) (i : ℕ) (x : X)
-      → whole ≡ prepend (take i items) here → here ≡ prepend (x ∷ []) rest → i < length items → drop i items ≡ drop i old
-      → (whole ≡ prepend (take (i + 1) (set items i x)) rest) × (drop (i + 1) (set items i x) ≡ drop (i + 1) old)
-  front_more whole here rest items old i x e f h k =
-      let below : i < i + 1 = omega arith in (
-        e ∙ ap (prepend (take i items)) f ∙ prepend_prepend (take i items) (x ∷ []) rest ∙ ap (λ l. prepend l rest) (sym (take_more_set items i x h)),
-        drop-set-lt (i + 1) items i x below ∙ sym (drop-drop 1 i items) ∙ ap (drop 1) k ∙ drop-drop 1 i old,
-      )
-
-  -- and it is done
-  pub front_all : (whole : Result (List X) TapeRefusal) (items old : List X) (n : ℕ)
-      → whole ≡ prepend (take n items) (Ok []) → n ≤ length items → drop n items ≡ drop n old → items ≡ placed whole old
-  front_all whole items old n e h k =
-      let long : length (take n items) ≡ n = length-take-le n items h in
-      rw (e, append-nil, long) (sym (ap (λ l. take n items ++ l) (sym k) ∙ take-append-drop n items))
+  -- what the look at a list says of it
+  pub refused : (r : Result (List X) TapeRefusal) (e : TapeRefusal) → Err e ≡ verdict r → r ≡ Err e
+  refused (Ok xs) e h = let z : ◌≡◌ {A = ℕ} 0 1 = cc in absurd (omega arith)
+  refused (Err d) e h = cc
 
   -- a refusal further on refuses the whole
   pub refused_whole : (whole here : Result (List X) TapeRefusal) (xs : List X) (e : TapeRefusal)
@@ -53,6 +33,29 @@ module _ {X : Type 0} where
   pub got_front : (r : Result (List X) TapeRefusal) (old new : List X) (n : ℕ) → Ok n ≡ measured r → new ≡ placed r old → r ≡ Ok (take n new)
   got_front (Ok xs) old new n c e = let m : length xs ≡ n = cc in ap Ok (sym (ap (take n) e ∙ take_at xs (drop (length xs) old) n m))
   got_front (Err f) old new n c e = let z : ◌≡◌ {A = ℕ} 0 1 = cc in absurd (omega arith)
+
+-- what the members of a list make, one member more
+module _ {X Y Z : Type 0} (f : X → Result Y Refusal) (g : Y → List Z) (xs : List X) (i : ℕ) where
+  one_more : (d : X) → i < length xs → each f g i (drop i xs) ≡ after g (f (get_or xs i d)) i (each f g (i + 1) (drop (i + 1) xs))
+  one_more d h = at_drop_more (each f g i) xs i d h
+
+  pub stops : (d : X) (e : Refusal) → i < length xs → Err e ≡ f (get_or xs i d) → each f g i (drop i xs) ≡ Err (refused_at e i)
+  stops d e h told = one_more d h ∙ ap (λ r. after g r i (each f g (i + 1) (drop (i + 1) xs))) (sym told)
+
+  pub goes : (d : X) (y : Y) → i < length xs → Ok y ≡ f (get_or xs i d) → each f g i (drop i xs) ≡ prepend (g y) (each f g (i + 1) (drop (i + 1) xs))
+  goes d y h told = one_more d h ∙ ap (λ r. after g r i (each f g (i + 1) (drop (i + 1) xs))) (sym told)
+
+-- as many parts as members, where each makes one
+module _ {X Y : Type 0} (f : X → Result Y Refusal) where
+  measured_more : (r : Result Y Refusal) (i n : ℕ) (rest : Result (List Y) TapeRefusal)
+      → (Ok tt ≡ verdict rest → Ok n ≡ measured rest) → Ok tt ≡ verdict (after (λ y. y ∷ []) r i rest) → Ok (suc n) ≡ measured (after (λ y. y ∷ []) r i rest)
+  measured_more (Ok y) i n (Ok ys) ih h = let g = ih refl in let e : n ≡ length ys = cc in ap (λ k. Ok (suc k)) e
+  measured_more (Ok y) i n (Err e) ih h = let z : ◌≡◌ {A = ℕ} 0 1 = cc in absurd (omega arith)
+  measured_more (Err e) i n rest ih h = let z : ◌≡◌ {A = ℕ} 0 1 = cc in absurd (omega arith)
+
+  pub each_measured : (i : ℕ) (xs : List X) → Ok tt ≡ verdict (each f (λ y. y ∷ []) i xs) → Ok (length xs) ≡ measured (each f (λ y. y ∷ []) i xs)
+  each_measured i [] h = refl
+  each_measured i (x ∷ xs) h = measured_more (f x) i (length xs) (each f (λ y. y ∷ []) (i + 1) xs) (each_measured (i + 1) xs) h
 
 -- a loop puts one record more at the front of a tape
 pub record_more : (whole here rest : Result (List ℕ) TapeRefusal) (tape old bs part new : List ℕ) (k n : ℕ)

@@ -1,6 +1,6 @@
 -- what a report is of any tape
-use Rattle.std.proofs.Common.{◌≡◌, ℕ, zero, suc, ◌+◌, ◌/◌, ◌<◌, ltb, List, [], ◌∷◌, ◌++◌, length, take, drop, Ok, Err, codes, decimal, sym, refl, ap, ◌∙◌, lit<, lit≤}
-use Rattle.monitor.specs.Content.{Content, after, banked}
+use Rattle.std.proofs.Common.{◌≡◌, ℕ, zero, suc, ◌+◌, ◌/◌, ◌<◌, ltb, List, [], ◌∷◌, ◌++◌, length, take, drop, Ok, Err, codes, decimal, Result, inl, sym, refl, ap, ◌∙◌, lit<, lit≤}
+use Rattle.monitor.specs.Content.{Content, after as content_after, banked}
 use Rattle.monitor.specs.Theorem.{log}
 use Rattle.monitor.specs.declared.call.Call.{Call}
 use Rattle.refusals.specs.Questions.{ruled}
@@ -13,12 +13,12 @@ use Rattle.tape.specs.Calls.{call_of, calls_of, meaning, one_call}
 use Rattle.tape.specs.Laws.{ReportLaws, SameText}
 use Rattle.tape.specs.Reader.{read_tape, reading}
 use Rattle.tape.specs.Record.{decoded}
-use Rattle.tape.specs.Reports.{report_after, report_text, short_tape}
+use Rattle.tape.specs.Reports.{Left, report_after, report_text, short_tape}
 use Rattle.tape.specs.declared.item.Item.{Item}
 
 log_length : (m : Content) (cs : List Call) → length (log banked m cs) ≡ length cs
 log_length m [] = refl
-log_length m (c ∷ cs) = ap suc (log_length (after m c) cs)
+log_length m (c ∷ cs) = ap suc (log_length (content_after m c) cs)
 
 -- each item that is read is a call
 calls_length : (n i : ℕ) (bytes : List ℕ) (items : List Item) → reading n i bytes ≡ Ok items → length (calls_of items) ≡ n
@@ -56,3 +56,8 @@ same_text = record {
   any = λ m n bs tape p q. ap (λ k. report_text k tape) (p ∙ sym q);
   shipped = λ m n bs tape p q. ap (λ k. report_text k tape) (p ∙ sym q);
 }
+
+-- a machine that is left as it was
+pub left_alone : {X Y : Type 0} (r : Result X Y) (m after : Content) → after ≡ m → Left r m after m
+left_alone (Ok x) m after e = sym e
+left_alone (Err y) m after e = inl refl

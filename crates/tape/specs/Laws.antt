@@ -1,11 +1,8 @@
 -- laws of the tape over its definitions, in the subject's words; the contracts of its calls carry them
 use Rattle.std.specs.Prelude.{◌≡◌, ℕ, ◌*◌, ◌/◌, ◌<◌, ◌≤◌, List, [], ◌∷◌, length, Ok, Err, codes}
-use Rattle.machine.specs.State.{content_of}
 use Rattle.machine.specs.declared.machine.Machine.{Machine}
-use Rattle.memory.specs.Meaning.{byte_bytes, pair_bytes, word_bytes}
-use Rattle.memory.specs.declared.byte.ByteMemory.{ByteMemory}
+use Rattle.memory.specs.Meaning.{ByteMemory, WordMemory}
 use Rattle.memory.specs.declared.pair.PairMemory.{PairMemory}
-use Rattle.memory.specs.declared.word.WordMemory.{WordMemory}
 use Rattle.monitor.specs.Content.{Content, banked, new_content}
 use Rattle.monitor.specs.Theorem.{log}
 use Rattle.monitor.specs.declared.call.Call.{Call}
@@ -61,5 +58,4 @@ pub record SameText : Type 0 where
   pub any : (m n : Content) (bs tape : List ℕ) → m ≡ new_content bs → n ≡ new_content bs → report_text m tape ≡ report_text n tape
   -- so do one over a buffer of bytes and the box as it ships
   pub shipped : (m : Machine ByteMemory) (n : Machine (PairMemory WordMemory WordMemory)) (bs tape : List ℕ)
-      → let ours = content_of byte_bytes m in let theirs = content_of (pair_bytes word_bytes word_bytes) n in
-      ours ≡ new_content bs → theirs ≡ new_content bs → report_text ours tape ≡ report_text theirs tape
+      → m.content ≡ new_content bs → n.content ≡ new_content bs → report_text m.content tape ≡ report_text n.content tape

@@ -1,4 +1,6 @@
 pub mod Item
+pub mod Operation
+pub mod Sizes
 pub mod Record
 pub mod Refusal
 pub mod Reader

@@ -2,7 +2,7 @@
 use Rattle.std.specs.Prelude.{ℕ, zero, suc, ◌+◌, ◌/◌, ◌%◌, cond, List, [], ◌∷◌, length, take, drop, Some, None, Ok, Err, Option, Result, ◌==◌, nat_le}
 use Rattle.refusals.specs.declared.Refusal.TheVariants.{PartialRecord, NoPlace}
 use Rattle.tape.specs.Record.{decoded}
-use Rattle.tape.specs.Refusal.{after, refused_at}
+use Rattle.tape.specs.Refusal.{after, each, refused_at}
 use Rattle.tape.specs.declared.item.Item.{Item}
 use Rattle.tape.specs.declared.refusal.TapeRefusal.{TapeRefusal}
 
@@ -10,6 +10,10 @@ use Rattle.tape.specs.declared.refusal.TapeRefusal.{TapeRefusal}
 abbrev pub reading : ℕ → ℕ → List ℕ → Result (List Item) TapeRefusal
 reading zero i bytes = Ok []
 reading (suc n) i bytes = after (λ x. x ∷ []) (decoded (take 16 bytes)) i (reading n (i + 1) (drop 16 bytes))
+
+-- the same of a list of records, the first of index i
+abbrev pub decoding : ℕ → List (List ℕ) → Result (List Item) TapeRefusal
+decoding i records = each decoded (λ x. x ∷ []) i records
 
 -- how many records so many bytes are, where they are whole ones
 abbrev pub whole_records : ℕ → Option ℕ

@@ -1,5 +1,5 @@
 -- a list that is made one part after another, or refused at an index
-use Rattle.std.specs.Prelude.{ℕ, List, ◌++◌, length, drop, Ok, Err, Result}
+use Rattle.std.specs.Prelude.{ℕ, ◌+◌, List, [], ◌∷◌, ◌++◌, length, drop, Ok, Err, Result}
 use Rattle.refusals.specs.declared.Refusal.{Refusal}
 use Rattle.tape.specs.declared.refusal.TapeRefusal.{TapeRefusal}
 
@@ -36,3 +36,8 @@ module _ {X : Type 0} where
   abbrev pub placed : Result (List X) TapeRefusal → List X → List X
   placed (Ok xs) old = xs ++ drop (length xs) old
   placed (Err e) old = old
+
+-- the parts that the members of a list make, one after another, the first of index i
+abbrev pub each : {X Y Z : Type 0} → (X → Result Y Refusal) → (Y → List Z) → ℕ → List X → Result (List Z) TapeRefusal
+each f g i [] = Ok []
+each f g i (x ∷ xs) = after g (f x) i (each f g (i + 1) xs)

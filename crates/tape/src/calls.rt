@@ -1,59 +1,86 @@
 // Items and the machine's calls: an item that is accepted is exactly one call.
-ghost use Rattle.std.specs.Prelude.{◌≡◌, ◌^◌, ◌<◌};
+ghost use Rattle.std.specs.Prelude.{◌≡◌, ◌^◌};
+ghost use Rattle.bank.specs.Verdicts.{kind_number};
 ghost use Rattle.monitor.specs.declared.call.Call.TheVariants.{Access};
-ghost use Rattle.tape.specs.Calls.{call_of, item_of, operation_of, width_of};
-ghost use Rattle.tape.specs.Item.{Fitting};
+ghost use Rattle.tape.specs.Calls.{call_of, item_of, meaning, operation_of};
 ghost use Rattle.tape.specs.Laws.{OneCall};
+ghost use Rattle.tape.specs.Operation.{access_operation};
 
+use crate::accepted::Accepted;
 use crate::item::Item;
 use crate::laws;
+use crate::operation::Operation;
+use crate::sizes::{size, width};
+use bank::Kind;
 use monitor::Call;
 use refusals::Refusal;
 
-impl Item {
+impl TryFrom<Item> for Call {
+    type Error = Refusal;
+
+    ghost try_from_gives = { λ i r. r ≡ call_of i };
+
     // The call that an item is.
-    pub fn call(self) -> Result<Call, Refusal>
-        ensures answer { result ≡ call_of self }
+    fn try_from(item: Item) -> Result<Call, Refusal>
+        ensures answer { result ≡ call_of item }
         ensures one { OneCall }
     {
         laws::one_call();
-        self.asked()?;
-        let call = match self.operation {
-            1 => Call::Create {
-                slot: self.slot,
-                base: self.address,
-                exponent: self.value,
-            },
-            2 => Call::Enter { slot: self.slot },
-            3 => Call::Pause,
-            4 => Call::Finish { word: self.value },
-            5 => Call::Destroy { slot: self.slot },
-            6 => self.access(1),
-            7 => self.access(2),
-            8 => self.access(0),
-            _ => Call::Register {
-                number: self.address,
-                word: self.value,
-            },
-        };
-        Ok(call)
+        Ok(Accepted::try_from(item)?.call())
     }
+}
 
-    // The access of a kind.
-    fn access(self, kind: u64) -> Call
-        requires { Fitting self }
-        ensures { result ≡ Access kind self.address (2 ^ self.width) self.value }
+impl Accepted {
+    // The call that it is.
+    fn call(self) -> Call
+        ensures { result ≡ meaning self.item }
     {
-        Call::Access {
-            kind,
-            address: self.address,
-            size: power(self.width),
-            value: self.value,
+        let Item {
+            slot,
+            address,
+            value,
+            ..
+        } = self.item;
+        match self.operation {
+            Operation::Create => Call::Create {
+                slot,
+                base: address,
+                exponent: value,
+            },
+            Operation::Enter => Call::Enter { slot },
+            Operation::Pause => Call::Pause,
+            Operation::Finish => Call::Finish { word: value },
+            Operation::Destroy => Call::Destroy { slot },
+            Operation::Load => self.access(Kind::Load),
+            Operation::Store => self.access(Kind::Store),
+            Operation::Fetch => self.access(Kind::Fetch),
+            Operation::Register => Call::Register {
+                number: address,
+                word: value,
+            },
         }
     }
 
+    // The access of a kind.
+    fn access(self, kind: Kind) -> Call
+        ensures { result ≡ Access (kind_number kind) self.item.address (2 ^ self.item.width) self.item.value }
+    {
+        Call::Access {
+            kind: kind as u64,
+            address: self.item.address,
+            size: size(self.item.width),
+            value: self.item.value,
+        }
+    }
+}
+
+impl TryFrom<Call> for Item {
+    type Error = Refusal;
+
+    ghost try_from_gives = { λ c r. r ≡ item_of c };
+
     // The item that is a call. An access of no kind has no operation, and one of no size no width.
-    pub fn of(call: Call) -> Result<Item, Refusal>
+    fn try_from(call: Call) -> Result<Item, Refusal>
         ensures answer { result ≡ item_of call }
         ensures one { OneCall }
     {
@@ -63,60 +90,42 @@ impl Item {
                 slot,
                 base,
                 exponent,
-            } => (1, slot, 0, base, exponent),
-            Call::Enter { slot } => (2, slot, 0, 0, 0),
-            Call::Pause => (3, 0, 0, 0, 0),
-            Call::Finish { word } => (4, 0, 0, 0, word),
-            Call::Destroy { slot } => (5, slot, 0, 0, 0),
+            } => (Operation::Create, slot, 0, base, exponent),
+            Call::Enter { slot } => (Operation::Enter, slot, 0, 0, 0),
+            Call::Pause => (Operation::Pause, 0, 0, 0, 0),
+            Call::Finish { word } => (Operation::Finish, 0, 0, 0, word),
+            Call::Destroy { slot } => (Operation::Destroy, slot, 0, 0, 0),
             Call::Access {
                 kind,
                 address,
                 size,
                 value,
-            } => (operation(kind), 0, width(size), address, value),
-            Call::Register { number, word } => (9, 0, 0, number, word),
+            } => {
+                let operation = operation(kind).ok_or(Refusal::Operation)?;
+                let width = width(size).ok_or(Refusal::Fields)?;
+                (operation, 0, width, address, value)
+            }
+            Call::Register { number, word } => (Operation::Register, 0, 0, number, word),
         };
         let item = Item {
-            operation,
+            operation: operation.number(),
             slot,
             width,
             address,
             value,
         };
-        item.asked()?;
-        Ok(item)
+        Ok(Accepted::try_from(item)?.item)
     }
 }
 
-// The operation of a kind of access: fetch, load, store, or none.
-fn operation(kind: u64) -> u64
-    ensures { result ≡ operation_of kind }
+// The operation of a kind of access.
+fn operation(kind: u64) -> Option<Operation>
+    ensures { result ≡ access_operation kind }
 {
-    match kind {
-        0 => 8,
-        1 => 6,
-        2 => 7,
-        _ => 0,
+    match Kind::try_from(kind) {
+        Ok(Kind::Fetch) => Some(Operation::Fetch),
+        Ok(Kind::Load) => Some(Operation::Load),
+        Ok(Kind::Store) => Some(Operation::Store),
+        Err(_) => None,
     }
-}
-
-// The width of a size, or one that fits no record.
-fn width(size: u64) -> u64
-    ensures { result ≡ width_of size }
-{
-    match size {
-        1 => 0,
-        2 => 1,
-        4 => 2,
-        8 => 3,
-        _ => 4,
-    }
-}
-
-// 2^n.
-fn power(n: u64) -> u64
-    requires { n < 4 }
-    ensures { result ≡ 2 ^ n }
-{
-    1 << n
 }

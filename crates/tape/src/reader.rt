@@ -1,7 +1,7 @@
 // The reader: from the bytes of a tape to items.
-ghost use Rattle.std.specs.Prelude.{◌≡◌, ◌*◌, ◌≤◌, true, length, take, IfSome, is_ok, IfOk, Ok};
+ghost use Rattle.std.specs.Prelude.{◌≡◌, ◌*◌, ◌≤◌, true, length, take, is_ok, IfOk, IfSome, Ok};
 ghost use Rattle.tape.specs.Laws.{OneTape};
-ghost use Rattle.tape.specs.Reader.{read_tape, reading, whole_records};
+ghost use Rattle.tape.specs.Reader.{decoding, read_tape, whole_records};
 ghost use Rattle.tape.specs.Refusal.{measured, placed, verdict};
 
 use crate::item::Item;
@@ -21,12 +21,21 @@ pub fn read(tape: &[u8], items: &mut [Item]) -> Result<usize, TapeRefusal>
 {
     laws::one_tape();
     let Some(count) = whole(tape) else {
-        return Err(TapeRefusal::new(Refusal::PartialRecord, tape.len() / RECORD));
+        return Err(TapeRefusal {
+            refusal: Refusal::PartialRecord,
+            index: tape.len() / RECORD,
+        });
     };
     if count > items.len() {
-        return Err(TapeRefusal::new(Refusal::NoPlace, items.len()));
+        return Err(TapeRefusal {
+            refusal: Refusal::NoPlace,
+            index: items.len(),
+        });
     }
-    draw(tape, count, items)
+    let (records, _) = tape.as_chunks::<RECORD>();
+    check_records(records)?;
+    put_items(records, items);
+    Ok(count)
 }
 
 // How many records a tape has, where it is whole records.
@@ -41,42 +50,25 @@ fn whole(tape: &[u8]) -> Option<usize>
     }
 }
 
-// Reads the first `count` records; all of them are looked at before a place is written.
-fn draw(tape: &[u8], count: usize, items: &mut [Item]) -> Result<usize, TapeRefusal>
-    requires whole { 16 * count ≤ length tape.now }
-    requires places { count ≤ length items.old }
-    ensures answer { result ≡ measured (reading count 0 tape.now) }
-    ensures after { items.new ≡ placed (reading count 0 tape.now) items.old }
-    ensures bound { IfOk result (λ n. n ≤ length items.old) }
-    ensures got { IfOk result (λ n. reading count 0 tape.now ≡ Ok (take n items.new)) }
+// Whether records are all items.
+fn check_records(records: &[[u8; RECORD]]) -> Result<(), TapeRefusal>
+    ensures { result ≡ verdict (decoding 0 records.now) }
 {
-    check_records(tape, count)?;
-    put_items(tape, count, items);
-    Ok(count)
-}
-
-// Whether the first `count` records are all items.
-fn check_records(tape: &[u8], count: usize) -> Result<(), TapeRefusal>
-    requires { 16 * count ≤ length tape.now }
-    ensures { result ≡ verdict (reading count 0 tape.now) }
-{
-    for i in 0..count {
-        if let Err(refusal) = decode(&tape[RECORD * i..RECORD * i + RECORD]) {
-            return Err(TapeRefusal::new(refusal, i));
-        }
+    for (index, record) in records.iter().enumerate() {
+        decode(record).map_err(|refusal| TapeRefusal { refusal, index })?;
     }
     Ok(())
 }
 
-// Puts the items of the first `count` records into places.
-fn put_items(tape: &[u8], count: usize, items: &mut [Item])
-    requires whole { 16 * count ≤ length tape.now }
-    requires places { count ≤ length items.old }
-    requires accepted { is_ok (reading count 0 tape.now) ≡ true }
-    ensures { items.new ≡ placed (reading count 0 tape.now) items.old }
+// Puts the items of records into places. By index and not by a zip with `iter_mut`, whose contract
+// does not say what the places end as.
+fn put_items(records: &[[u8; RECORD]], items: &mut [Item])
+    requires places { length records.now ≤ length items.old }
+    requires accepted { is_ok (decoding 0 records.now) ≡ true }
+    ensures { items.new ≡ placed (decoding 0 records.now) items.old }
 {
-    for i in 0..count {
-        if let Ok(item) = decode(&tape[RECORD * i..RECORD * i + RECORD]) {
+    for (i, record) in records.iter().enumerate() {
+        if let Ok(item) = decode(record) {
             items[i] = item;
         }
     }

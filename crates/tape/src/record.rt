@@ -2,17 +2,17 @@
 // first: operation 4 bits, slot 4, width 2, spare 20, address 34, value 64.
 ghost use Rattle.std.specs.Prelude.{◌≡◌, ◌^◌, ◌<◌, ◌≤◌, length};
 ghost use Rattle.std.specs.Int.Digits.{number_from_digits};
-ghost use Rattle.tape.specs.Item.{Fitting};
 ghost use Rattle.tape.specs.Record.{bytes_of, decoded, encoded, packed, split};
 
+use crate::accepted::Accepted;
 use crate::item::Item;
 use refusals::Refusal;
 
 // The bytes of a record.
-pub(crate) const RECORD: usize = 16;
+pub const RECORD: usize = 16;
 
 // What a record holds.
-#[derive(Clone, Copy)]
+#[derive(Clone, Copy, Debug, PartialEq, Eq)]
 pub(crate) struct Unpacked {
     spare: u64,
     item: Item,
@@ -36,7 +36,7 @@ fn unpack(bytes: &[u8]) -> Unpacked
     ensures { result ≡ split (number_from_digits 256 bytes.now) }
 {
     let [head, rest @ ..] = bytes else {
-        unreachable()
+        unreachable!()
     };
     let high = big_endian(&rest[0..7]);
     let value = big_endian(&rest[7..]);
@@ -53,40 +53,39 @@ fn unpack(bytes: &[u8]) -> Unpacked
     }
 }
 
-// The number of 128 bits that the fields make.
-fn combine(item: Item) -> u128
-    requires { Fitting item }
-    ensures { result ≡ packed item }
-{
-    let head = (u128::from(item.operation) << 4) | u128::from(item.slot);
-    let high = (((head << 2) | u128::from(item.width)) << 54) | u128::from(item.address);
-    (high << 64) | u128::from(item.value)
-}
+impl Accepted {
+    // The number of 128 bits that the fields make.
+    fn combine(self) -> u128
+        ensures { result ≡ packed self.item }
+    {
+        let item = self.item;
+        let head = (u128::from(item.operation) << 4) | u128::from(item.slot);
+        let high = (((head << 2) | u128::from(item.width)) << 54) | u128::from(item.address);
+        (high << 64) | u128::from(item.value)
+    }
 
-fn pack(item: Item) -> [u8; RECORD]
-    requires { Fitting item }
-    ensures { result ≡ bytes_of 16 (packed item) }
-{
-    combine(item).to_be_bytes()
+    fn pack(self) -> [u8; RECORD]
+        ensures { result ≡ bytes_of 16 (packed self.item) }
+    {
+        self.combine().to_be_bytes()
+    }
 }
 
 // The item of a record.
-pub(crate) fn decode(bytes: &[u8]) -> Result<Item, Refusal>
-    requires { length bytes.now ≡ 16 }
+pub(crate) fn decode(bytes: &[u8; RECORD]) -> Result<Item, Refusal>
     ensures { result ≡ decoded bytes.now }
 {
     let Unpacked { spare, item } = unpack(bytes);
-    item.asked()?;
+    let accepted = Accepted::try_from(item)?;
     if spare != 0 {
         return Err(Refusal::Fields);
     }
-    Ok(item)
+    Ok(accepted.item)
 }
 
 // The record of an item.
 pub(crate) fn encode(item: Item) -> Result<[u8; RECORD], Refusal>
     ensures { result ≡ encoded item }
 {
-    item.asked()?;
-    Ok(pack(item))
+    Ok(Accepted::try_from(item)?.pack())
 }

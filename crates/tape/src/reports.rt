@@ -1,6 +1,5 @@
 // A report: the whole text that is printed of a tape's run.
 ghost use Rattle.std.specs.Prelude.{◌≡◌, ◌≤◌, length, take, IfOk, Ok, Err, string_bytes, MatchResult};
-ghost use Rattle.machine.specs.State.{beyond_of, content_of};
 ghost use Rattle.monitor.specs.Content.{banked};
 ghost use Rattle.monitor.specs.Theorem.{calls, log as logged, ran};
 ghost use Rattle.tape.specs.Calls.{calls_of};
@@ -24,15 +23,6 @@ pub const LIMIT: usize = 65_536;
 
 const MOST: usize = LIMIT / RECORD;
 
-// What a place holds before an item is read into it.
-const BLANK: Item = Item {
-    operation: 0,
-    slot: 0,
-    width: 0,
-    address: 0,
-    value: 0,
-};
-
 // Runs a tape on a machine, and answers the text of the run: a line for each record, or one for
 // a tape that is refused, which leaves the machine as it was.
 pub fn report<M: Memory>(
@@ -40,32 +30,20 @@ pub fn report<M: Memory>(
     machine: &mut Machine<M>,
     tape: &[u8],
 ) -> Result<String, AllocError>
-    ensures text { IfOk result (λ t. string_bytes t ≡ report_text (content_of M.Memory.bytes machine.old) tape.now) }
-    ensures after { Left result (content_of M.Memory.bytes machine.old) (report_after (content_of M.Memory.bytes machine.old) tape.now) (content_of M.Memory.bytes machine.new) }
-    ensures beyond { beyond_of M.Memory.beyond machine.new ≡ beyond_of M.Memory.beyond machine.old }
+    ensures text { IfOk result (λ t. string_bytes t ≡ report_text machine.old.content tape.now) }
+    ensures after { Left result machine.old.content (report_after machine.old.content tape.now) machine.new.content }
+    ensures beyond { machine.new.beyond ≡ machine.old.beyond }
     ensures laws { ReportLaws }
     ensures same { SameText }
 {
     laws::report_laws();
     laws::same_text();
-    let mut places = vec![in heap; BLANK; MOST]?;
-    told(heap, machine, tape, places.as_mut_slice())
-}
-
-// The same, with places for the items.
-fn told<M: Memory>(
-    heap: Global,
-    machine: &mut Machine<M>,
-    tape: &[u8],
-    places: &mut [Item],
-) -> Result<String, AllocError>
-    requires { length places.old ≡ most }
-    ensures text { IfOk result (λ t. string_bytes t ≡ report_text (content_of M.Memory.bytes machine.old) tape.now) }
-    ensures after { Left result (content_of M.Memory.bytes machine.old) (report_after (content_of M.Memory.bytes machine.old) tape.now) (content_of M.Memory.bytes machine.new) }
-    ensures beyond { beyond_of M.Memory.beyond machine.new ≡ beyond_of M.Memory.beyond machine.old }
-{
-    match read_short(tape, places) {
-        Ok(count) => { run(heap, machine, &places[0..count]) }
+    let mut items = vec![in heap; Item::default(); MOST]?;
+    match read_short(tape, items.as_mut_slice()) {
+        Ok(count) => {
+            items.truncate(count);
+            run(heap, machine, items.as_slice())
+        }
         Err(refusal) => refused(heap, refusal),
     }
 }
@@ -76,7 +54,10 @@ fn read_short(tape: &[u8], places: &mut [Item]) -> Result<usize, TapeRefusal>
     ensures { MatchResult result (λ n. (n ≤ most) × (short_tape tape.now ≡ Ok (take n places.new))) (λ e. short_tape tape.now ≡ Err e) }
 {
     if tape.len() > LIMIT {
-        return Err(TapeRefusal::new(Refusal::NoPlace, MOST));
+        return Err(TapeRefusal {
+            refusal: Refusal::NoPlace,
+            index: MOST,
+        });
     }
     read(tape, places)
 }
@@ -87,9 +68,9 @@ fn run<M: Memory>(
     machine: &mut Machine<M>,
     items: &[Item],
 ) -> Result<String, AllocError>
-    ensures text { IfOk result (λ t. string_bytes t ≡ run_text (content_of M.Memory.bytes machine.old) (Ok items.now)) }
-    ensures after { Left result (content_of M.Memory.bytes machine.old) (run_after (content_of M.Memory.bytes machine.old) (Ok items.now)) (content_of M.Memory.bytes machine.new) }
-    ensures beyond { beyond_of M.Memory.beyond machine.new ≡ beyond_of M.Memory.beyond machine.old }
+    ensures text { IfOk result (λ t. string_bytes t ≡ run_text machine.old.content (Ok items.now)) }
+    ensures after { Left result machine.old.content (run_after machine.old.content (Ok items.now)) machine.new.content }
+    ensures beyond { machine.new.beyond ≡ machine.old.beyond }
 {
     let mut log = log_of(heap, items)?;
     run_log(heap, machine, log.as_mut_slice())
@@ -101,9 +82,9 @@ fn run_log<M: Memory>(
     machine: &mut Machine<M>,
     log: &mut [(Call, Answer)],
 ) -> Result<String, AllocError>
-    ensures text { IfOk result (λ t. string_bytes t ≡ lines_from 0 (logged banked (content_of M.Memory.bytes machine.old) (calls log.old))) }
-    ensures after { content_of M.Memory.bytes machine.new ≡ ran banked (content_of M.Memory.bytes machine.old) (calls log.old) }
-    ensures beyond { beyond_of M.Memory.beyond machine.new ≡ beyond_of M.Memory.beyond machine.old }
+    ensures text { IfOk result (λ t. string_bytes t ≡ lines_from 0 (logged banked machine.old.content (calls log.old))) }
+    ensures after { machine.new.content ≡ ran banked machine.old.content (calls log.old) }
+    ensures beyond { machine.new.beyond ≡ machine.old.beyond }
 {
     machine.run(log);
     lines(heap, log)
@@ -115,8 +96,8 @@ fn log_of(heap: Global, items: &[Item]) -> Result<Vec<(Call, Answer)>, AllocErro
 {
     let mut log = Vec::new(heap);
     for item in items {
-        if let Ok(call) = item.call() {
-            log.push((call, Answer::Done(0)))?;
+        if let Ok(call) = Call::try_from(*item) {
+            log.push((call, Ok(0)))?;
         }
     }
     Ok(log)
@@ -127,8 +108,8 @@ fn lines(heap: Global, log: &[(Call, Answer)]) -> Result<String, AllocError>
     ensures { IfOk result (λ t. string_bytes t ≡ lines_from 0 log.now) }
 {
     let mut text = String::new(heap);
-    for i in 0..log.len() {
-        let one = line(heap, i, log[i].1)?;
+    for (i, (_, answer)) in log.iter().enumerate() {
+        let one = line(heap, i, *answer)?;
         text.push_str(one.as_str())?;
     }
     Ok(text)
@@ -138,7 +119,6 @@ fn lines(heap: Global, log: &[(Call, Answer)]) -> Result<String, AllocError>
 fn refused(heap: Global, refusal: TapeRefusal) -> Result<String, AllocError>
     ensures { IfOk result (λ t. string_bytes t ≡ refusal_text refusal) }
 {
-    let number = refusal.refusal.number();
-    let index = refusal.index;
-    format!(in heap; "tape {number} {index}\n")
+    let TapeRefusal { refusal, index } = refusal;
+    format!(in heap; "tape {refusal} {index}\n")
 }

@@ -20,34 +20,37 @@ pub fn write(items: &[Item], tape: &mut [u8]) -> Result<usize, TapeRefusal>
     laws::reads_back();
     let fit = tape.len() / RECORD;
     if items.len() > fit {
-        return Err(TapeRefusal::new(Refusal::NoPlace, fit));
+        return Err(TapeRefusal {
+            refusal: Refusal::NoPlace,
+            index: fit,
+        });
     }
     check_items(items)?;
     put_records(items, tape);
     Ok(items.len())
 }
 
-// Whether items are all records.
+// Whether items are all records. Not one loop with the reader's `check_records`: a trait over
+// `encode` and `decode` is longer than both.
 fn check_items(items: &[Item]) -> Result<(), TapeRefusal>
     ensures { result ≡ verdict (writing 0 items.now) }
 {
-    for i in 0..items.len() {
-        if let Err(refusal) = encode(items[i]) {
-            return Err(TapeRefusal::new(refusal, i));
-        }
+    for (index, item) in items.iter().enumerate() {
+        encode(*item).map_err(|refusal| TapeRefusal { refusal, index })?;
     }
     Ok(())
 }
 
-// Puts the records of items onto a tape.
+// Puts the records of items onto a tape. By ranges and not by `as_chunks_mut` or `chunks_exact_mut`:
+// their contracts do not say what the tape ends as.
 fn put_records(items: &[Item], tape: &mut [u8])
     requires places { 16 * length items.now ≤ length tape.old }
     requires accepted { is_ok (writing 0 items.now) ≡ true }
     ensures { tape.new ≡ placed (writing 0 items.now) tape.old }
 {
-    for i in 0..items.len() {
-        if let Ok(bytes) = encode(items[i]) {
-            tape[RECORD * i..RECORD * i + RECORD].copy_from_slice(&bytes);
+    for (i, item) in items.iter().enumerate() {
+        if let Ok(record) = encode(*item) {
+            tape[RECORD * i..RECORD * i + RECORD].copy_from_slice(&record);
         }
     }
 }

@@ -1,6 +1,9 @@
 // Turns a tape into text, and such text into a tape.
 #![tactic(auto)]
 
+ghost use Rattle.std.specs.Prelude.{◌≡◌};
+ghost use Rattle.tapetext.specs.declared.Failure.TheVariants.{Broken, Refused};
+
 use std::io::{Read, Write};
 use std::process::ExitCode;
 use std::{env, io};
@@ -36,13 +39,11 @@ fn asked(rt: &HostRuntime) -> io::Result<Way> {
     let Some(word) = env::args(rt)?.nth(1) else {
         return Ok(Way::Help);
     };
-    if word.as_str() == "text" {
-        Ok(Way::Text)
-    } else if word.as_str() == "tape" {
-        Ok(Way::Tape)
-    } else {
-        Ok(Way::Help)
-    }
+    Ok(match word.as_str() {
+        "text" => Way::Text,
+        "tape" => Way::Tape,
+        _ => Way::Help,
+    })
 }
 
 // The input, up to one byte more than the limit.
@@ -54,34 +55,55 @@ fn input(rt: &HostRuntime, limit: usize) -> io::Result<Vec<u8>> {
     Ok(bytes)
 }
 
-// Does what is asked for, and answers a fault of the input.
-fn run(rt: &HostRuntime) -> anyhow::Result<Option<Fault>> {
+// Why nothing comes of it.
+#[derive(Drop)]
+enum Failure {
+    // the input is refused
+    Refused(Fault),
+    // it cannot be read, or the output not written
+    Broken(io::Error),
+}
+
+impl From<Fault> for Failure {
+    ghost from_gives = { λ fault r. r ≡ Refused fault };
+
+    fn from(fault: Fault) -> Failure {
+        Failure::Refused(fault)
+    }
+}
+
+impl From<io::Error> for Failure {
+    ghost from_gives = { λ error r. r ≡ Broken error };
+
+    fn from(error: io::Error) -> Failure {
+        Failure::Broken(error)
+    }
+}
+
+// Does what is asked for.
+fn run(rt: &HostRuntime) -> Result<(), Failure> {
     match asked(rt)? {
         Way::Text => {
             let tape = input(rt, TAPE_LIMIT)?;
-            match words::text_of(rt.alloc(), tape.as_slice()) {
-                Ok(text) => rt.print(text)?,
-                Err(fault) => return Ok(Some(fault)),
-            }
+            rt.print(words::text_of(rt.alloc(), tape.as_slice())?)?;
         }
         Way::Tape => {
             let text = input(rt, TEXT_LIMIT)?;
-            match words::tape_of(rt.alloc(), text.as_slice()) {
-                Ok(tape) => rt.stdout().write_all(tape.as_slice())?,
-                Err(fault) => return Ok(Some(fault)),
-            }
+            let tape = words::tape_of(rt.alloc(), text.as_slice())?;
+            rt.stdout().write_all(tape.as_slice())?;
         }
         Way::Help => rt.print(HELP)?,
     }
-    Ok(None)
+    Ok(())
 }
 
 fn main(rt: HostRuntime) -> anyhow::Result<ExitCode> {
-    match run(&rt)? {
-        None => Ok(ExitCode::SUCCESS),
-        Some(fault) => {
+    match run(&rt) {
+        Ok(()) => Ok(ExitCode::SUCCESS),
+        Err(Failure::Refused(fault)) => {
             eprintln!(rt; "tapetext: {fault}")?;
             Ok(ExitCode::FAILURE)
         }
+        Err(Failure::Broken(error)) => Err(error.into()),
     }
 }

@@ -2,7 +2,6 @@
 // rules in docs/, never from the code.
 #![tactic(auto)]
 
-mod answers;
 #[cfg(test)]
 mod checks;
 #[cfg(test)]

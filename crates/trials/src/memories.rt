@@ -17,16 +17,8 @@ fn holds<M: Memory>(memory: &mut M, length: u64) -> Result<(), Fail> {
         check(memory.write(place, byte_of(place)).is_some() == (place < length))?;
     }
     for place in 0..4_200 {
-        let expected = if place < length {
-            u64::from(byte_of(place))
-        } else {
-            999
-        };
-        let found = match memory.read(place) {
-            Some(byte) => u64::from(byte),
-            None => 999,
-        };
-        check(found == expected)?;
+        let expected = (place < length).then(|| byte_of(place));
+        check(memory.read(place) == expected)?;
     }
     check(memory.read(u64::MAX).is_none())?;
     check(memory.write(u64::MAX, 1).is_none())?;

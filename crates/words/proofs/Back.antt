@@ -1,9 +1,8 @@
 -- an item's line, read back
-use Rattle.std.proofs.Common.{◌≡◌, ℕ, ◌^◌, ◌<◌, ◌≤◌, true, eqb, ltb, List, [], ◌∷◌, ◌++◌, Some, None, codes, decimal, Option, sym, refl, ap, ◌∙◌, inl, inr, arith, rules}
-use Rattle.calculator.specs.Cut.{extend}
-use Rattle.calculator.specs.Options.{and_then}
-use Rattle.calculator.specs.Words.{words}
-use Rattle.std.proofs.lemmas.Bool.{and_parts, cases_eq, cond-false, cond-true, ltb-true, ne_eqb}
+use Rattle.std.proofs.Common.{◌≡◌, ℕ, ◌^◌, ◌<◌, ◌≤◌, true, List, [], ◌∷◌, ◌++◌, Some, None, codes, decimal, Option, sym, refl, ap, ◌∙◌, inl, inr, arith, rules}
+use Rattle.tokens.specs.Options.{and_then}
+use Rattle.tokens.specs.Words.{words}
+use Rattle.std.proofs.lemmas.Bool.{cases_eq, cond-true}
 use Rattle.std.specs.Option.{option_map}
 use Rattle.std.specs.List.{AllByRecursion as All}
 use Rattle.std.specs.Str.{bytes_eq}
@@ -11,31 +10,15 @@ use Rattle.tape.proofs.Records.{accepted, by_operation, item_passed, under, Unde
 use Rattle.tape.specs.Item.{item, item_questions, largest_of}
 use Rattle.tape.specs.Record.{bytes_of, packed}
 use Rattle.refusals.specs.Questions.{ruling}
-use Rattle.words.proofs.Numerals.{dark, dark_decimal, dark_hex, number_decimal, number_hex}
+use Rattle.tokens.proofs.Dark.{dark, words_front, words_one}
+use Rattle.words.proofs.Numerals.{dark_decimal, dark_hex, number_decimal, number_hex}
 use Rattle.words.specs.Fields.{ended, field_of, number_first, one_of, three_of, two_of}
 use Rattle.words.specs.Hex.{hex_text}
 use Rattle.words.specs.Laws.{ItemsReadBack}
 use Rattle.words.specs.Line.{line_text}
 use Rattle.words.specs.Numbers.{number_value}
 use Rattle.words.specs.Parse.{parse_line, parse_words, sized}
-use Rattle.words.specs.Sizes.{size_of, width_of}
-
--- a word in front of what begins with a space, or of nothing
-words_front : (w rest : List ℕ) (ws : List (List ℕ)) → dark w ≡ true → words rest ≡ [] ∷ ws → words (w ++ rest) ≡ w ∷ ws
-words_front [] rest ws t h = h
-words_front (x ∷ xs) rest ws t h =
-    let parts = and_parts (ltb 32 x) (dark xs) t in
-    let more = ltb-true 32 x parts.0 in
-    cond-false (eqb x 32) ([] ∷ words (xs ++ rest)) (extend x (words (xs ++ rest))) (ne_eqb x 32 (λ e. omega arith))
-    ∙ ap (extend x) (words_front xs rest ws parts.1 h)
-
-words_last : (w : List ℕ) → dark w ≡ true → words w ≡ w ∷ []
-words_last [] t = refl
-words_last (x ∷ xs) t =
-    let parts = and_parts (ltb 32 x) (dark xs) t in
-    let more = ltb-true 32 x parts.0 in
-    cond-false (eqb x 32) ([] ∷ words xs) (extend x (words xs)) (ne_eqb x 32 (λ e. omega arith))
-    ∙ ap (extend x) (words_last xs parts.1)
+use Rattle.tape.specs.Sizes.{size_of, width_of}
 
 -- words, each behind a space
 abbrev spaced : List (List ℕ) → List ℕ → List ℕ
@@ -43,7 +26,7 @@ spaced [] last = 32 ∷ last
 spaced (w ∷ ws) last = 32 ∷ (w ++ spaced ws last)
 
 words_spaced : (ws : List (List ℕ)) (last : List ℕ) → All (λ w. dark w ≡ true) ws → dark last ≡ true → words (spaced ws last) ≡ [] ∷ (ws ++ (last ∷ []))
-words_spaced [] last ts t = ap (λ (l : List (List ℕ)). [] ∷ l) (words_last last t)
+words_spaced [] last ts t = ap (λ (l : List (List ℕ)). [] ∷ l) (words_one last t)
 words_spaced (w ∷ ws) last ts t =
     ap (λ (l : List (List ℕ)). [] ∷ l) (words_front w (spaced ws last) (ws ++ (last ∷ [])) ts.0 (words_spaced ws last ts.1 t))
 

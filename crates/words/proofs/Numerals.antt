@@ -1,40 +1,14 @@
 -- the digits of a number, read back, and what they are not
-use Rattle.std.proofs.Common.{◌≡◌, ℕ, zero, suc, ◌+◌, ◌*◌, ◌/◌, ◌%◌, ◌^◌, ◌<◌, ◌≤◌, Bool, true, false, cond, ◌&&◌, eqb, ltb, List, [], ◌∷◌, ◌++◌, length, get_or, Some, None, decimal, Option, sym, refl, ap, ◌∙◌, inl, inr, mod-lt, mul_comm, div-le_self, arith}
-use Rattle.calculator.specs.Numbers.{digit_value}
-use Rattle.calculator.specs.Options.{and_then}
-use Rattle.std.proofs.lemmas.List.{append_assoc}
-use Rattle.std.proofs.lemmas.Bool.{and_from, and_parts, and_right, cases_eq, cond_both, cond-false, cond-true, eqb-true, false≢true, lt-ltb, ltb-true, ne_eqb}
+use Rattle.std.proofs.Common.{◌≡◌, ℕ, zero, suc, ◌+◌, ◌*◌, ◌/◌, ◌%◌, ◌^◌, ◌<◌, ◌≤◌, Bool, true, false, cond, ◌&&◌, eqb, ltb, List, [], ◌∷◌, ◌++◌, length, get_or, Some, None, decimal, Option, sym, refl, ap, ◌∙◌, mod-lt, mul_comm, div-le_self, arith}
+use Rattle.tokens.proofs.Dark.{dark, digit_dark}
+use Rattle.tokens.proofs.Letters.{below, digit_back}
+use Rattle.tokens.specs.Options.{and_then}
+use Rattle.std.proofs.lemmas.Bool.{and_from, and_parts, and_right, cond_both, cond-false, cond-true, eqb-true, lt-ltb, ltb-true, ne_eqb}
 use Rattle.std.specs.Char.{digit_char}
 use Rattle.std.specs.Fmt.{digits, digit_glyph, digits_onto}
-use Rattle.words.specs.Hex.{digits_from, front_digit, hex_text, high_text, low_text}
+use Rattle.words.specs.Hex.{digits_from, front_digit, hex_text}
 use Rattle.words.specs.Numbers.{digits_value, fitting, next_value, number_value, read_value}
 use native.Mathlib.Nat.{div-div-eq-div-mul, pow-succ'}
-
--- a test passes at each number below n
-abbrev all_below : (ℕ → Bool) → ℕ → Bool
-all_below f zero = true
-all_below f (suc n) = f n && all_below f n
-
-below : (f : ℕ → Bool) (n k : ℕ) → all_below f n ≡ true → k < n → f k ≡ true
-below f zero k t h = absurd (omega arith)
-below f (suc n) k t h =
-    elim (cases_eq k n) [
-      | inl e ↦ rw e (and_parts (f n) (all_below f n) t).0
-      | inr ne ↦ below f n k (and_parts (f n) (all_below f n) t).1 (omega arith)
-    ]
-
-is_some : Option ℕ → ℕ → Bool
-is_some None d = false
-is_some (Some e) d = eqb e d
-
-some_from : (o : Option ℕ) (d : ℕ) → is_some o d ≡ true → o ≡ Some d
-unfolding is_some
-some_from None d t = absurd (false≢true t)
-some_from (Some e) d t = ap Some (eqb-true e d t)
-
-digit_back : (d : ℕ) → d < 16 → digit_value (digit_char d) ≡ Some d
-unfolding is_some
-digit_back d h = some_from (digit_value (digit_char d)) d (below (λ x. is_some (digit_value (digit_char x)) x) 16 d refl h)
 
 -- one digit more
 step : (base m d n : ℕ) → d < base → base ≤ 16 → m * base + d ≡ n → n < 2 ^ 64 → next_value base m (digit_char d) ≡ Some n
@@ -57,18 +31,10 @@ read_spelled (suc k) n acc h fits =
     (λ e. one 0 (omega (arith, eqb-true (n / 10) 0 e)))
     (λ _. read_spelled k (n / 10) (digit_glyph false (n % 10) ∷ acc) front (omega arith) ∙ one (n / 10) (omega arith))
 
--- every byte is above the space
-abbrev pub dark : List ℕ → Bool
-dark [] = true
-dark (x ∷ xs) = ltb 32 x && dark xs
-
-glyph_dark : (d : ℕ) → ltb 32 (digit_char d) ≡ true
-glyph_dark d = cond_both (ltb d 10) (48 + d) (87 + d) (λ x. ltb 32 x ≡ true) (λ _. lt-ltb 32 (48 + d) (omega arith)) (λ _. lt-ltb 32 (87 + d) (omega arith))
-
 dark_spelled : (k n : ℕ) (acc : List ℕ) → dark acc ≡ true → dark (digits_onto k 10 false n acc) ≡ true
 dark_spelled zero n acc t = t
 dark_spelled (suc k) n acc t =
-    let more : dark (digit_glyph false (n % 10) ∷ acc) ≡ true = and_from (ltb 32 (digit_glyph false (n % 10))) (dark acc) (glyph_dark (n % 10)) t in
+    let more : dark (digit_glyph false (n % 10) ∷ acc) ≡ true = and_from (ltb 32 (digit_glyph false (n % 10))) (dark acc) (digit_dark (n % 10)) t in
     cond_both (eqb (n / 10) 0) (digit_glyph false (n % 10) ∷ acc) (digits_onto k 10 false (n / 10) (digit_glyph false (n % 10) ∷ acc)) (λ xs. dark xs ≡ true)
     (λ _. more) (λ _. dark_spelled k (n / 10) (digit_glyph false (n % 10) ∷ acc) more)
 
@@ -136,10 +102,6 @@ read_from (suc k) n fits =
     (λ _. read_on 16 (m / 16) (m % 16) m (digits_from k n) (mod-lt m (omega arith)) (omega arith) (omega arith) (omega arith))
     ∙ read_from k n fits
 
-hex_is : (n : ℕ) → high_text n ++ low_text n ≡ digits_from 15 n
-unfolding high_text low_text
-hex_is n = simp append_assoc
-
 from_some : (k n : ℕ) → eqb (length (digits_from k n)) 0 ≡ false
 from_some zero n = filled (digit_char (n % 16)) []
 from_some (suc k) n =
@@ -149,20 +111,19 @@ from_some (suc k) n =
 pub number_hex : (n : ℕ) → n < 2 ^ 64 → number_value (hex_text n) ≡ Some n
 unfolding hex_text
 number_hex n fits =
-    ap (read_value 16) (hex_is n)
-    ∙ cond-false (eqb (length (digits_from 15 n)) 0) None (digits_value 16 0 (digits_from 15 n)) (from_some 15 n)
+    cond-false (eqb (length (digits_from 15 n)) 0) None (digits_value 16 0 (digits_from 15 n)) (from_some 15 n)
     ∙ ap (λ (x : ℕ). digits_value 16 x (digits_from 15 n)) {x = 0} {y = n / 16 ^ 16} (omega arith)
     ∙ read_from 15 n fits
 
 dark_from : (k n : ℕ) → dark (digits_from k n) ≡ true
-dark_from zero n = and_from (ltb 32 (digit_char (n % 16))) true (glyph_dark (n % 16)) refl
+dark_from zero n = and_from (ltb 32 (digit_char (n % 16))) true (digit_dark (n % 16)) refl
 dark_from (suc k) n =
     cond_both (eqb (n / 16 ^ suc k) 0) [] (digit_char (n / 16 ^ suc k % 16) ∷ []) (λ xs. dark (xs ++ digits_from k n) ≡ true)
-    (λ _. dark_from k n) (λ _. and_from (ltb 32 (digit_char (n / 16 ^ suc k % 16))) (dark (digits_from k n)) (glyph_dark (n / 16 ^ suc k % 16)) (dark_from k n))
+    (λ _. dark_from k n) (λ _. and_from (ltb 32 (digit_char (n / 16 ^ suc k % 16))) (dark (digits_from k n)) (digit_dark (n / 16 ^ suc k % 16)) (dark_from k n))
 
 pub dark_hex : (n : ℕ) → dark (hex_text n) ≡ true
 unfolding hex_text
-dark_hex n = ap dark (hex_is n) ∙ dark_from 15 n
+dark_hex n = dark_from 15 n
 
 from_short : (k n : ℕ) → length (digits_from k n) ≤ k + 1
 from_short zero n = omega arith
@@ -172,4 +133,4 @@ from_short (suc k) n =
 
 pub length_hex : (n : ℕ) → length (hex_text n) ≤ 18
 unfolding hex_text
-length_hex n = omega (arith, ap length (hex_is n), from_short 15 n)
+length_hex n = omega (arith, from_short 15 n)

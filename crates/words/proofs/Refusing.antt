@@ -2,7 +2,7 @@
 use Rattle.std.proofs.Common.{◌^◌, ltb, length, Err, refl}
 use Rattle.std.proofs.lemmas.Bool.{cond-true, lt-ltb}
 use Rattle.tape.specs.Item.{largest_of}
-use Rattle.calculator.specs.Lines.{script_lines}
+use Rattle.tokens.specs.Lines.{script_lines}
 use Rattle.words.specs.Laws.{LinesRefused}
 use Rattle.words.specs.Tapes.{limited, lines_records}
 use Rattle.words.specs.declared.fault.Fault.TheVariants.{LongText}

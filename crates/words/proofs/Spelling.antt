@@ -1,22 +1,42 @@
--- the digits that are written of a number
-use Rattle.std.proofs.Common.{◌≡◌, ℕ, ◌/◌, ◌%◌, ◌^◌, ◌<◌, eqb, List, [], ◌∷◌, ◌++◌, sym, ap, ◌∙◌, arith}
-use Rattle.std.proofs.lemmas.Str.Ascii.{encode_ascii}
-use Rattle.std.proofs.lemmas.Bool.{cond-false, ne_eqb}
+-- a number that std writes in hexadecimal
+use Rattle.std.proofs.Common.{◌≡◌, ℕ, zero, suc, ◌/◌, ◌%◌, ◌^◌, ◌<◌, ◌≤◌, true, false, Bool, cond, eqb, List, [], ◌∷◌, ◌++◌, sym, refl, ap, ◌∙◌, arith}
+use Rattle.std.proofs.lemmas.List.{append_assoc, append-nil}
+use Rattle.std.proofs.lemmas.Bool.{cond_both, cond-true, eq-eqb, eqb-true}
 use Rattle.std.specs.Char.{digit_char}
-use Rattle.words.specs.Hex.{front_digit, low_text}
-use lib.Utf8.{encode}
+use Rattle.std.specs.Fmt.{digits, digits_onto}
+use Rattle.words.specs.Hex.{digits_from, front_digit, hex_text}
+use native.Mathlib.Nat.{div-div-eq-div-mul, pow-succ', zero-div}
 
--- one digit
-digit_text : (d h : ℕ) → h ≡ digit_char d → h < 128 → encode h ≡ digit_char d ∷ []
-digit_text d h is low = encode_ascii h low ∙ ap (λ (x : ℕ). x ∷ []) is
+-- the last digit, behind those of the front
+from_last : (k n : ℕ) → digits_from (suc k) n ≡ cond (eqb (n / 16) 0) [] (digits_from k (n / 16)) ++ (digit_char (n % 16) ∷ [])
+from_last zero n = refl
+from_last (suc k) n =
+    let cut : n / 16 ^ suc (suc k) ≡ m / 16 ^ suc k = sym (div-div-eq-div-mul n 16 (16 ^ suc k) ∙ ap (λ (p : ℕ). n / p) (sym (pow-succ' 16 (suc k)))) in
+    ap (λ (x : ℕ). front_digit x ++ digits_from (suc k) n) cut
+    ∙ ap (λ (l : List ℕ). front_digit (m / 16 ^ suc k) ++ l) (from_last k n)
+    ∙ by (eqb m 0) refl
+  where
+    m : ℕ
+    m = n / 16
 
-pub front_text : (m h : ℕ) → 0 < m → h ≡ digit_char (m % 16) → h < 128 → encode h ≡ front_digit m
-front_text m h some is low =
-    digit_text (m % 16) h is low ∙ sym (cond-false (eqb m 0) [] (digit_char (m % 16) ∷ []) (ne_eqb m 0 (λ e. omega arith)))
+    by : (t : Bool) → eqb m 0 ≡ t → front_digit (m / 16 ^ suc k) ++ (cond t [] (digits_from k m) ++ (digit_char (n % 16) ∷ [])) ≡ cond t [] (digits_from (suc k) m) ++ (digit_char (n % 16) ∷ [])
+    by true is = ap (λ (x : ℕ). front_digit x ++ (digit_char (n % 16) ∷ [])) (ap (λ (x : ℕ). x / 16 ^ suc k) (eqb-true m 0 is) ∙ zero-div (16 ^ suc k))
+    by false is = sym (append_assoc (front_digit (m / 16 ^ suc k)) (digits_from k m) (digit_char (n % 16) ∷ []))
 
-pub low_is : (n h : ℕ) → h ≡ digit_char (n % 16) → h < 128
-    → front_digit (n / 16 ^ 7) ++ (front_digit (n / 16 ^ 6) ++ (front_digit (n / 16 ^ 5) ++ (front_digit (n / 16 ^ 4) ++ (front_digit (n / 16 ^ 3) ++ (front_digit (n / 16 ^ 2) ++ (front_digit (n / 16) ++ encode h)))))) ≡ low_text n
-unfolding low_text
-low_is n h is low =
-    ap (λ (s : List ℕ). front_digit (n / 16 ^ 7) ++ (front_digit (n / 16 ^ 6) ++ (front_digit (n / 16 ^ 5) ++ (front_digit (n / 16 ^ 4) ++ (front_digit (n / 16 ^ 3) ++ (front_digit (n / 16 ^ 2) ++ (front_digit (n / 16) ++ s)))))))
-    (digit_text (n % 16) h is low)
+-- so many digits at most
+digits_are : (k j n : ℕ) (acc : List ℕ) → n < 16 ^ suc k → k ≤ j → digits_onto (suc j) 16 false n acc ≡ digits_from k n ++ acc
+digits_are zero j n acc h le =
+    cond-true (eqb (n / 16) 0) (digit_char (n % 16) ∷ acc) (digits_onto j 16 false (n / 16) (digit_char (n % 16) ∷ acc)) (eq-eqb (n / 16) 0 (omega arith))
+digits_are (suc k) zero n acc h le = absurd (omega arith)
+digits_are (suc k) (suc j) n acc h le =
+    let d = digit_char (n % 16) in
+    let more = digits_are k j (n / 16) (d ∷ acc) (omega (arith, pow-succ' 16 (suc k))) (omega arith) in
+    let last = λ (t : Bool) (is : eqb (n / 16) 0 ≡ t). sym (ap (λ (l : List ℕ). l ++ acc) (from_last k n ∙ ap (λ (v : Bool). cond v [] (digits_from k (n / 16)) ++ (d ∷ [])) is)) in
+    cond_both (eqb (n / 16) 0) (d ∷ acc) (digits_onto (suc j) 16 false (n / 16) (d ∷ acc)) (λ (l : List ℕ). l ≡ digits_from (suc k) n ++ acc)
+    (λ e. last true e)
+    (λ e. more ∙ sym (append_assoc (digits_from k (n / 16)) (d ∷ []) acc) ∙ last false e)
+
+-- what `0x{:x}` writes
+pub hex_digits : (n : ℕ) → n < 2 ^ 64 → hex_text n ≡ 48 ∷ 120 ∷ digits 16 false n
+unfolding digits hex_text
+hex_digits n h = ap (λ (l : List ℕ). 48 ∷ 120 ∷ l) (sym (digits_are 15 63 n [] h (omega arith) ∙ append-nil (digits_from 15 n)))

@@ -1,7 +1,7 @@
 -- the text of a tape, read back whole
 use Rattle.std.proofs.Common.{◌≡◌, ℕ, zero, suc, ◌+◌, ◌-◌, ◌*◌, ◌/◌, ◌%◌, ◌^◌, ◌<◌, ◌≤◌, Bool, true, false, cond, ◌&&◌, eqb, ltb, leb, List, [], ◌∷◌, ◌++◌, map, length, get_or, take, drop, Some, None, Ok, Err, codes, decimal, Result, refl, ap, ◌∙◌, arith}
-use Rattle.calculator.specs.Cut.{extend}
-use Rattle.calculator.specs.Lines.{is_silent, lines, script_lines, without_return}
+use Rattle.tokens.specs.Cut.{extend}
+use Rattle.tokens.specs.Lines.{is_silent, lines, script_lines, without_return}
 use Rattle.refusals.specs.Questions.{ruling}
 use Rattle.refusals.specs.declared.Refusal.{Refusal}
 use Rattle.refusals.specs.declared.Refusal.TheVariants.{NoPlace}
@@ -18,12 +18,13 @@ use Rattle.tape.specs.Refusal.{after, refused_at}
 use Rattle.tape.specs.declared.item.Item.{Item}
 use Rattle.tape.specs.declared.refusal.TapeRefusal.{TapeRefusal}
 use Rattle.words.proofs.Back.{items_read_back, size_fits}
-use Rattle.words.proofs.Numerals.{dark, dark_decimal, dark_hex, length_hex}
+use Rattle.tokens.proofs.Dark.{dark}
+use Rattle.words.proofs.Numerals.{dark_decimal, dark_hex, length_hex}
 use Rattle.words.specs.Hex.{hex_text}
 use Rattle.words.specs.Laws.{TapesReadBack}
 use Rattle.words.specs.Line.{item_text, line_text}
 use Rattle.words.specs.Parse.{parse_line}
-use Rattle.words.specs.Sizes.{size_of}
+use Rattle.tape.specs.Sizes.{size_of}
 use Rattle.words.specs.Tapes.{followed, front, item_record, items_text, limited, line_record, lines_records, record_or, tape_text, text_or, text_tape}
 use Rattle.words.specs.declared.fault.Fault.{Fault}
 use Rattle.words.specs.declared.fault.Fault.TheVariants.{LongTape, LongText}

@@ -1,6 +1,6 @@
 -- the fields of a line: numbers, each behind its label
 use Rattle.std.specs.Prelude.{ℕ, cond, List, [], ◌∷◌, Some, None, Option}
-use Rattle.calculator.specs.Options.{and_then}
+use Rattle.tokens.specs.Options.{and_then}
 use Rattle.std.specs.Option.{option_map}
 use Rattle.std.specs.Str.{bytes_eq}
 use Rattle.words.specs.Numbers.{number_value}
@@ -29,3 +29,9 @@ two_of a b ws = and_then (field_of a ws) (λ p. option_map (λ y. (p.0, y)) (one
 
 abbrev pub three_of : List ℕ → List ℕ → List ℕ → List (List ℕ) → Option (ℕ × ℕ × ℕ)
 three_of a b c ws = and_then (field_of a ws) (λ p. option_map (λ q. (p.0, q.0, q.1)) (two_of b c p.1))
+
+-- so many fields, and no more
+abbrev pub fields_of : List (List ℕ) → List (List ℕ) → Option (List ℕ)
+fields_of [] [] = Some []
+fields_of [] (w ∷ ws) = None
+fields_of (label ∷ labels) ws = and_then (field_of label ws) (λ p. option_map (λ ns. p.0 ∷ ns) (fields_of labels p.1))

@@ -6,5 +6,4 @@ pub mod Line
 pub mod Numbers
 pub mod Operation
 pub mod Parse
-pub mod Sizes
 pub mod Tapes

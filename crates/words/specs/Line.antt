@@ -2,7 +2,7 @@
 use Rattle.std.specs.Prelude.{ℕ, cond, List, ◌++◌, codes, decimal, ◌==◌}
 use Rattle.tape.specs.declared.item.Item.{Item}
 use Rattle.words.specs.Hex.{hex_text}
-use Rattle.words.specs.Sizes.{size_of}
+use Rattle.tape.specs.Sizes.{size_of}
 
 abbrev pub create_text : ℕ → ℕ → ℕ → List ℕ
 create_text slot base exponent = codes "create slot " ++ (decimal slot ++ (codes " base " ++ (hex_text base ++ (codes " exponent " ++ decimal exponent))))

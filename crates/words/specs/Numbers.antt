@@ -1,7 +1,7 @@
 -- numbers as a text writes them: decimal digits, or hexadecimal ones after 0x
 use Rattle.std.specs.Prelude.{ℕ, ◌+◌, ◌*◌, ◌^◌, cond, ◌&&◌, List, [], ◌∷◌, length, drop, Some, None, Option, ◌==◌, nat_lt, slice_index}
-use Rattle.calculator.specs.Numbers.{digit_value}
-use Rattle.calculator.specs.Options.{and_then}
+use Rattle.tokens.specs.Digits.{digit_value}
+use Rattle.tokens.specs.Options.{and_then}
 
 -- a number of 64 bits
 abbrev pub fitting : ℕ → Option ℕ

@@ -1,8 +1,8 @@
 -- the words that name operations
 use Rattle.std.specs.Prelude.{ℕ, cond, List, Some, None, codes, Option}
 use Rattle.std.specs.Str.{bytes_eq}
-use Rattle.words.specs.declared.operation.Operation.{Operation}
-use Rattle.words.specs.declared.operation.Operation.TheVariants.{Create, Enter, Pause, Finish, Destroy, Load, Store, Fetch, Register}
+use Rattle.tape.specs.declared.operation.Operation.{Operation}
+use Rattle.tape.specs.declared.operation.Operation.TheVariants.{Create, Enter, Pause, Finish, Destroy, Load, Store, Fetch, Register}
 
 abbrev pub operation_named : List ℕ → Option Operation
 operation_named w =

@@ -1,15 +1,15 @@
 -- a line as an item
 use Rattle.std.specs.Prelude.{ℕ, List, [], ◌∷◌, Some, None, codes, Option}
-use Rattle.calculator.specs.Options.{and_then}
-use Rattle.calculator.specs.Words.{words}
+use Rattle.tokens.specs.Options.{and_then}
+use Rattle.tokens.specs.Words.{words}
 use Rattle.std.specs.Option.{option_map}
 use Rattle.tape.specs.Item.{item}
 use Rattle.tape.specs.declared.item.Item.{Item}
 use Rattle.words.specs.Fields.{one_of, three_of, two_of}
 use Rattle.words.specs.Operation.{operation_named}
-use Rattle.words.specs.Sizes.{width_of}
-use Rattle.words.specs.declared.operation.Operation.{Operation}
-use Rattle.words.specs.declared.operation.Operation.TheVariants.{Create, Enter, Pause, Finish, Destroy, Load, Store, Fetch, Register}
+use Rattle.tape.specs.Sizes.{width_of}
+use Rattle.tape.specs.declared.operation.Operation.{Operation}
+use Rattle.tape.specs.declared.operation.Operation.TheVariants.{Create, Enter, Pause, Finish, Destroy, Load, Store, Fetch, Register}
 
 -- the item of an access of a size, where there is such a size
 abbrev pub sized : ℕ → ℕ → ℕ → ℕ → Option Item

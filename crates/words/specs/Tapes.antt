@@ -1,6 +1,6 @@
 -- tapes and texts, each made from the other
 use Rattle.std.specs.Prelude.{◌≡◌, ℕ, ◌+◌, ◌^◌, cond, ◌⊎◌, List, [], ◌∷◌, ◌++◌, length, Some, None, Ok, Err, Option, Result, MatchResult, nat_lt}
-use Rattle.calculator.specs.Lines.{is_silent, script_lines}
+use Rattle.tokens.specs.Lines.{is_silent, script_lines}
 use Rattle.refusals.specs.declared.Refusal.{Refusal}
 use Rattle.tape.specs.Reader.{read_tape}
 use Rattle.tape.specs.Record.{encoded}

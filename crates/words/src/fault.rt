@@ -1,14 +1,14 @@
 // Why a tape has no text, or a text no tape.
 ghost use Rattle.std.specs.Prelude.{◌≡◌, Some};
 ghost use Rattle.words.specs.Fault.{fault_text};
-ghost use Rattle.words.specs.declared.fault.Fault.TheVariants.{Memory};
+ghost use Rattle.words.specs.declared.fault.Fault.TheVariants.{Memory, Tape};
 
 use refusals::Refusal;
 use std::alloc::AllocError;
 use std::fmt;
 use tape::TapeRefusal;
 
-#[derive(Clone, Copy)]
+#[derive(Clone, Copy, Debug, PartialEq, Eq)]
 pub enum Fault {
     // a line that writes no item, by its number from 1
     Line(usize),
@@ -32,6 +32,14 @@ impl From<AllocError> for Fault {
     }
 }
 
+impl From<TapeRefusal> for Fault {
+    ghost from_gives = { λ e r. r ≡ Tape e };
+
+    fn from(refusal: TapeRefusal) -> Fault {
+        Fault::Tape(refusal)
+    }
+}
+
 impl fmt::Display for Fault {
     ghost output = { λ x. Some (fault_text x) };
 
@@ -41,12 +49,11 @@ impl fmt::Display for Fault {
             Fault::Item(number, refusal) => {
                 write!(
                     f,
-                    "line {number}: no tape holds this item, refusal {}",
-                    refusal.number()
+                    "line {number}: no tape holds this item, refusal {refusal}"
                 )
             }
             Fault::Tape(TapeRefusal { refusal, index }) => {
-                write!(f, "record {index}: refusal {}", refusal.number())
+                write!(f, "record {index}: refusal {refusal}")
             }
             Fault::LongTape => write!(f, "the tape is too long"),
             Fault::LongText => write!(f, "the text is too long"),

@@ -1,17 +1,13 @@
 // The text form of tapes: a line of words and numbers for each item.
 #![tactic(auto)]
 
-mod cut;
 mod fault;
 mod fields;
-mod hex;
 mod laws;
 mod line;
-mod lines;
 mod numbers;
 mod operation;
 mod parse;
-mod sizes;
 mod tapes;
 mod texts;
 

@@ -1,7 +1,8 @@
 // Numbers as a text writes them: decimal digits, or hexadecimal ones after 0x.
-ghost use Rattle.std.specs.Prelude.{◌≡◌, ◌<◌, IfSome};
-ghost use Rattle.calculator.specs.Numbers.{digit_value};
+ghost use Rattle.std.specs.Prelude.{◌≡◌};
 ghost use Rattle.words.specs.Numbers.{digits_value, next_value, number_value, read_value};
+
+use tokens::digit;
 
 // The number that a word writes.
 pub(crate) fn number(word: &[u8]) -> Option<u64>
@@ -31,22 +32,9 @@ fn read(base: u64, digits: &[u8]) -> Option<u64>
 fn next(base: u64, n: u64, byte: u8) -> Option<u64>
     ensures { result ≡ next_value base n byte }
 {
-    let digit = value(byte)?;
+    let digit = digit(byte)?;
     if digit >= base {
         return None;
     }
     n.checked_mul(base)?.checked_add(digit)
-}
-
-// The value of a digit, in upper or lower case.
-fn value(byte: u8) -> Option<u64>
-    ensures value { result ≡ digit_value byte }
-    ensures below { IfSome result (λ d. d < 16) }
-{
-    match byte {
-        b'0'..=b'9' => Some((byte - b'0') as u64),
-        b'a'..=b'f' => Some((byte - b'a' + 10) as u64),
-        b'A'..=b'F' => Some((byte - b'A' + 10) as u64),
-        _ => None,
-    }
 }

@@ -1,6 +1,6 @@
 // From a text to its tape.
 ghost use Rattle.std.specs.Prelude.{◌≡◌, ◌^◌, ◌<◌, ◌≤◌, length, Err, vec_items};
-ghost use Rattle.calculator.specs.Lines.{script_lines};
+ghost use Rattle.tokens.specs.Lines.{script_lines};
 ghost use Rattle.words.specs.Laws.{ItemsReadBack, LinesRefused};
 ghost use Rattle.words.specs.Parse.{parse_line};
 ghost use Rattle.words.specs.Tapes.{Tells, front, item_record, line_record, lines_records, text_tape};
@@ -8,10 +8,11 @@ ghost use Rattle.words.specs.declared.fault.Fault.TheVariants.{LongText};
 
 use crate::fault::Fault;
 use crate::laws;
-use crate::lines::{first_line, silent};
 use crate::parse::parse;
 use crate::texts::TAPE_LIMIT;
 use std::alloc::Global;
+use tape::RECORD;
+use tokens::{Lines, silent};
 
 // The longest text, in bytes.
 pub const TEXT_LIMIT: usize = 1_048_576;
@@ -41,12 +42,8 @@ fn records(heap: Global, text: &[u8]) -> Result<Vec<u8>, Fault>
     ensures { Tells vec_items result (lines_records 1 (script_lines text.now)) }
 {
     let mut tape = Vec::new(heap);
-    let mut rest = text;
-    let mut number = 1;
-    while let Some((line, more)) = first_line(rest) {
-        push_record(&mut tape, number, line)?;
-        number += 1;
-        rest = more;
+    for (index, line) in Lines::of(text).enumerate() {
+        push_record(&mut tape, index + 1, line)?;
     }
     Ok(tape)
 }
@@ -64,15 +61,11 @@ fn push_record(tape: &mut Vec<u8>, number: usize, line: &[u8]) -> Result<(), Fau
 }
 
 // The record of a line's item.
-fn record_of(number: usize, line: &[u8]) -> Result<[u8; 16], Fault>
+fn record_of(number: usize, line: &[u8]) -> Result<[u8; RECORD], Fault>
     ensures { result ≡ item_record number (parse_line line.now) }
 {
-    let Some(item) = parse(line) else {
-        return Err(Fault::Line(number));
-    };
-    let mut record = [0; 16];
-    match tape::write(&[item], &mut record) {
-        Ok(_) => Ok(record),
-        Err(refused) => Err(Fault::Item(number, refused.refusal)),
-    }
+    let item = parse(line).ok_or(Fault::Line(number))?;
+    let mut record = [0; RECORD];
+    tape::write(&[item], &mut record).map_err(|refused| Fault::Item(number, refused.refusal))?;
+    Ok(record)
 }

@@ -10,22 +10,13 @@ use crate::fault::Fault;
 use crate::laws;
 use crate::line::Line;
 use std::alloc::{AllocError, Global};
-use tape::Item;
+use tape::{Item, LIMIT, RECORD};
 
 // The longest tape, in bytes.
-pub const TAPE_LIMIT: usize = 65_536;
+pub const TAPE_LIMIT: usize = LIMIT;
 
 // Its items.
-const ITEMS: usize = 4_096;
-
-// What a place holds before an item is read into it.
-const BLANK: Item = Item {
-    operation: 0,
-    slot: 0,
-    width: 0,
-    address: 0,
-    value: 0,
-};
+const ITEMS: usize = TAPE_LIMIT / RECORD;
 
 // The text of a tape: a line for each item.
 pub fn text_of(heap: Global, tape: &[u8]) -> Result<String, Fault>
@@ -37,21 +28,10 @@ pub fn text_of(heap: Global, tape: &[u8]) -> Result<String, Fault>
     if tape.len() > TAPE_LIMIT {
         return Err(Fault::LongTape);
     }
-    let mut places = vec![in heap; BLANK; ITEMS]?;
-    text_by(heap, tape, places.as_mut_slice())
-}
-
-// The same of a tape that is not too long, with places for the items.
-fn text_by(heap: Global, tape: &[u8], places: &mut [Item]) -> Result<String, Fault>
-    ensures { Tells string_bytes result (text_or (read_tape tape.now (length places.old))) }
-{
-    match tape::read(tape, places) {
-        Ok(count) => {
-            let (items, _) = places.split_at(count);
-            Ok(lines(heap, items)?)
-        }
-        Err(refusal) => Err(Fault::Tape(refusal)),
-    }
+    let mut items = vec![in heap; Item::default(); ITEMS]?;
+    let count = tape::read(tape, items.as_mut_slice())?;
+    items.truncate(count);
+    Ok(lines(heap, items.as_slice())?)
 }
 
 // A line for each item.
@@ -70,8 +50,5 @@ fn push_line(text: &mut String, item: Item) -> Result<(), AllocError>
     ensures { OnOk result (string_bytes text.new ≡ string_bytes text.old ++ (item_text item ++ (10 ∷ []))) }
 {
     let line = Line(item);
-    match write!(text, "{line}\n") {
-        Ok(()) => Ok(()),
-        Err(_) => Err(AllocError),
-    }
+    write!(text, "{line}\n").map_err(|_| AllocError)
 }

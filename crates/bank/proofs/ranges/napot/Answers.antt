@@ -1,15 +1,17 @@
-use Rattle.std.proofs.Common.{◌+◌, arith, pow_pos}
-use Rattle.bank.proofs.Ones.{ones_fit, ones_is}
+use Rattle.std.proofs.Common.{◌+◌, arith}
+use Rattle.std.proofs.lemmas.Nat.{one_shl}
+use Rattle.bank.proofs.Ones.{ones_few, ones_fit, ones_is}
 use Rattle.bank.proofs.ranges.napot.Goals as goal
 
-pub overflow_sub-first-2 : goal.overflow_sub-first-2
-overflow_sub-first-2 c = omega (arith, ones_fit c.args.word c.trailing_ones-n.result (omega arith) c.trailing_ones-n.ensures)
+pub overflow_sub-first : goal.overflow_sub-first
+overflow_sub-first c =
+    let n = c.trailing_ones-n.result in
+    let few = ones_few c.args.word n (omega arith) c.trailing_ones-n.ensures in
+    omega (arith, ones_fit c.args.word n (omega arith) c.trailing_ones-n.ensures, one_shl n 64 (omega arith))
 
-pub returns : goal.returns
-returns c =
-    let some = pow_pos (c.trailing_ones-n.result + 3) in
-    record {
-      answer =
-          simp (c.min.ensures, c.power.ensures, c.power-2.ensures, ones_is c.args.word c.trailing_ones-n.result (omega arith) c.trailing_ones-n.ensures);
-      within = (omega arith, omega arith);
-    }
+pub returns-clause-answer : goal.returns-clause-answer
+returns-clause-answer c =
+    let n = c.trailing_ones-n.result in
+    let few = ones_few c.args.word n (omega arith) c.trailing_ones-n.ensures in
+    simp (c.min.ensures, one_shl n 64 (omega arith), one_shl (n + 3) 64 (omega arith))
+    (simp (ones_is c.args.word n (omega arith) c.trailing_ones-n.ensures))

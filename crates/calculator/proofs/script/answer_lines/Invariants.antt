@@ -1,14 +1,12 @@
 -- the text so far, and what the lines that are left print, are what the whole prints
-use Rattle.std.proofs.Common.{◌≡◌, ◌+◌, ◌≤◌, ◌++◌, length, string_bytes}
+use Rattle.std.proofs.Common.{◌≡◌, ◌++◌, string_bytes}
 use Rattle.bank.specs.Content.{blank}
-use Rattle.bank.specs.Registers.{content}
 use Rattle.calculator.proofs.script.answer_lines.Given as goal
-use Rattle.calculator.specs.Lines.{script_lines}
 use Rattle.calculator.specs.Script.{lines_text}
+use Rattle.tokens.specs.Lines.{script_lines}
 
-abbrev pub invariant-loop-line : goal.invariant-loop-line
-invariant-loop-line l = (l.index + length l.rest ≤ length l.script)
-    × (string_bytes l.text ++ lines_text (content l.bank) l.index (script_lines l.rest) ≡ lines_text blank 0 (script_lines l.script))
-
-abbrev pub decreases-loop-line : goal.decreases-loop-line
-decreases-loop-line l = length l.rest
+abbrev pub invariant-loop-index : goal.invariant-loop-index
+invariant-loop-index l =
+    (goal.iterator-loop-index).can_next l.index-iterator
+    × (goal.iterator-loop-index).is_finite l.index-iterator
+    × (string_bytes l.text ++ lines_text l.bank l.index-iterator.count l.index-iterator.iter ≡ lines_text blank 0 (script_lines l.script))

@@ -1,12 +1,15 @@
+-- the format's text is known with the digits as std writes them
+use Rattle.std.proofs.Common.{◌≡◌, ℕ, ◌-◌, ◌^◌, false, List, [], ◌∷◌, ◌++◌, decimal, string_bytes, ap, ◌∙◌, rules}
+use Rattle.std.proofs.lemmas.Result.{IfOk-weaker}
+use Rattle.std.specs.Fmt.{digits, format_spec, padded_integral}
+use Rattle.tape.proofs.Hex.{hex_sixteen}
 use Rattle.tape.proofs.line.line.Goals as goal
 use Rattle.tape.specs.Line.{code_text, hex_text}
-use Rattle.std.proofs.lemmas.Result.{IfOk-weaker}
-use Rattle.std.proofs.Common.{ℕ, List, [], ◌∷◌, ◌++◌, decimal, ap, ◌∙◌}
 
--- the format's text is known up to the digits, which `hex` gives
 pub returns : goal.returns
 returns c =
-    let digits = c.as_str-digits.ensures.value ∙ c.in_ok-digits.ensures ∙ ap hex_text c.value.ensures in
-    IfOk-weaker c.format.result _ _
-    (λ t h. h ∙ ap (λ (l : List ℕ). decimal c.args.index ++ (32 ∷ (code_text c.args.answer ++ (32 ∷ (l ++ (10 ∷ [])))))) digits)
-    c.format.ensures.ok
+    let text = λ (l : List ℕ). decimal c.args.index ++ (32 ∷ (code_text c.args.answer ++ (32 ∷ (l ++ (10 ∷ []))))) in
+    let same = hex_sixteen c.value-value.result c.value-value.type_inv ∙ ap hex_text c.value-value.ensures in
+    IfOk-weaker c.format.result
+    (λ t. string_bytes t ≡ text (padded_integral (format_spec 32 0 4 16 (2 ^ 64 - 1)) false [] (digits 16 false c.value-value.result))) _
+    (λ t h. h ∙ ap text same) (search rules)

@@ -1,7 +1,7 @@
-use Rattle.std.proofs.Common.{◌≡◌, ◌-◌, ◌*◌, drop}
+use Rattle.std.proofs.Common.{◌≡◌, drop}
 use Rattle.tape.proofs.reader.check_records.Given as goal
-use Rattle.tape.specs.Reader.{reading}
+use Rattle.tape.specs.Reader.{decoding}
 use Rattle.tape.specs.Refusal.{verdict}
 
-abbrev pub invariant-loop-i : goal.invariant-loop-i
-invariant-loop-i l = verdict (reading l.count 0 l.tape) ≡ verdict (reading (l.count - l.i) l.i (drop (16 * l.i) l.tape))
+abbrev pub invariant-loop-index : goal.invariant-loop-index
+invariant-loop-index l = verdict (decoding 0 l.records) ≡ verdict (decoding l.index-counter (drop l.index-counter l.records))

@@ -1,12 +1,11 @@
-use Rattle.std.proofs.Common.{sym, ◌∙◌, arith, rules}
-use Rattle.bank.proofs.Lowest.{lowest_here, lowest_none, lowest_past}
+use Rattle.std.proofs.Common.{◌≡◌, ◌∙◌, ap, rules, length}
+use Rattle.bank.specs.Content.{count}
+use Rattle.bank.specs.Verdicts.{deciding}
+use Rattle.bank.proofs.Lowest.{deciding_kept}
 use Rattle.bank.proofs.bank.Bank.decider.Goals as goal
 
-pub returns-then-meets : goal.returns-then-meets
-returns-then-meets c = record { within = search rules; answer = sym (c.loop-i.invariant ∙ lowest_here c.args.self.now.entries.list c.args.span c.loop-i.i (omega arith) (cc)) }
-
-pub loop-i-preserved : goal.loop-i-preserved
-loop-i-preserved c = c.loop-i.invariant ∙ lowest_past c.args.self.now.entries.list c.args.span c.loop-i.i (omega arith) (cc)
-
-pub returns : goal.returns
-returns c = record { within = tt; answer = sym (c.loop-i.invariant ∙ lowest_none c.args.self.now.entries.list c.args.span c.loop-i.i (omega arith)) }
+pub returns-clause-answer : goal.returns-clause-answer
+returns-clause-answer c =
+    let long : length c.self.inside.ranges ≡ count = search rules in
+    c.first_met.ensures.at ∙ deciding_kept c.self.inside.entries c.args.span c.self.inside.ranges c.self.invariant long
+    ∙ ap (λ l. deciding l c.args.span) c.self.view_is

@@ -1,0 +1,28 @@
+// How an entry says its range: bits 4 and 3 of its byte.
+ghost use Rattle.bank.specs.Mode.{mode_of};
+ghost use Rattle.std.specs.Prelude.{◌≡◌};
+
+#[derive(Clone, Copy, Debug, PartialEq, Eq)]
+pub(crate) enum Mode {
+    // no range
+    Off,
+    // from the word below to its own
+    Tor,
+    // four bytes
+    Na4,
+    // a power of two, by the word's trailing ones
+    Napot,
+}
+
+impl Mode {
+    pub(crate) fn of(byte: u8) -> Mode
+        ensures { result ≡ mode_of byte }
+    {
+        match byte & 0x18 {
+            0 => Mode::Off,
+            0x08 => Mode::Tor,
+            0x10 => Mode::Na4,
+            _ => Mode::Napot,
+        }
+    }
+}

@@ -1,0 +1,12 @@
+-- the numbers in their places, and those of the words that are left, are those of the whole
+use Rattle.std.proofs.Common.{◌≡◌, length, take}
+use Rattle.calculator.proofs.Parsing.{in_front}
+use Rattle.calculator.proofs.parse.numbers.Given as goal
+use Rattle.calculator.specs.Parse.{numbers as numbers_of}
+
+abbrev pub invariant-loop-i : goal.invariant-loop-i
+invariant-loop-i g l =
+    (goal.iterator-loop-i g).can_next l.words
+    × (goal.iterator-loop-i g).is_finite l.words
+    × (length l.numbers ≡ g.row.N)
+    × (numbers_of l.fn.words ≡ in_front (take l.i l.numbers) (numbers_of l.words))

@@ -1,0 +1,5 @@
+pub mod Cuts
+pub mod Dark
+pub mod Firsts
+pub mod Hex
+pub mod Letters

@@ -1,0 +1,5 @@
+pub mod Cut
+pub mod Digits
+pub mod Lines
+pub mod Options
+pub mod Words
