@@ -78,7 +78,7 @@ pub(crate) fn locked(byte: u8) -> bool
 fn tor(byte: u8) -> bool
     ensures { result ≡ is_tor byte }
 {
-    Mode::of(byte) == Mode::Tor
+    Mode::from(byte) == Mode::Tor
 }
 
 // A written byte as it is kept: without bits 6 and 5, and without W where R is clear.

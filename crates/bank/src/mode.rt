@@ -1,7 +1,4 @@
 // How an entry says its range: bits 4 and 3 of its byte.
-ghost use Rattle.bank.specs.Mode.{mode_of};
-ghost use Rattle.std.specs.Prelude.{◌≡◌};
-
 #[derive(Clone, Copy, Debug, PartialEq, Eq)]
 pub(crate) enum Mode {
     // no range
@@ -14,10 +11,14 @@ pub(crate) enum Mode {
     Napot,
 }
 
-impl Mode {
-    pub(crate) fn of(byte: u8) -> Mode
-        ensures { result ≡ mode_of byte }
-    {
+// The mode of a byte.
+impl From<u8> for Mode {
+    ghost use Rattle.bank.specs.Mode.{mode_of};
+    ghost use Rattle.std.specs.Prelude.{◌≡◌};
+
+    ghost from_gives = { λ byte mode. mode ≡ mode_of byte };
+
+    fn from(byte: u8) -> Mode {
         match byte & 0x18 {
             0 => Mode::Off,
             0x08 => Mode::Tor,

@@ -1,4 +1,5 @@
-// Ranges: the first byte, and the byte after the last.
+// Ranges: the first byte, and the byte after the last. A range is a pair of numbers throughout, as a
+// rule of this library.
 ghost use Rattle.std.specs.Prelude.{◌≡◌, ◌+◌, ◌-◌, ◌*◌, ◌/◌, ◌^◌, ◌<◌, ◌≤◌, IfSome};
 ghost use Rattle.bank.specs.Laws.{RangesComeBack};
 ghost use Rattle.bank.specs.Ranges.{napot_range, range_at, range_of, range_word as word_of};
@@ -33,7 +34,7 @@ impl Entries {
         ensures within { IfSome result (λ s. (s.0 < s.1) × (s.1 ≤ 2 ^ 34)) }
     {
         let word = self.word(i);
-        match Mode::of(self.config(i)) {
+        match Mode::from(self.config(i)) {
             Mode::Off => None,
             Mode::Tor => {
                 let below = i.below().map_or(0, |below| self.word(below));

@@ -43,7 +43,8 @@ impl Bank {
         }
     }
 
-    // Writes the register as far as the locks let it, and answers what it then holds.
+    // Writes the register as far as the locks let it, and answers what it then holds. Privilege and
+    // number may be any here too.
     pub fn write(&mut self, privilege: u64, number: u64, word: u32) -> Result<u32, Refusal>
         ensures answer { result ≡ write_answer self.old privilege number word }
         ensures after { self.new ≡ written self.old privilege number word }

@@ -23,7 +23,7 @@ impl Checksum {
         self.sum = (self.sum ^ word).wrapping_mul(FACTOR);
     }
 
-    // Adds a number for what kind of answer it is, and the number that it holds.
+    // Adds a number for what kind of answer it is, and the number that it holds, as the C model does.
     pub(crate) fn answer(&mut self, answer: Answer) {
         let (kind, number) = match answer {
             Ok(value) => (0, value),

@@ -1,13 +1,15 @@
 // Accesses, drawn one after another by a small generator: the same ones in every run.
 use crate::checksum::Checksum;
+use bank::Kind;
 
-pub(crate) const LOAD: u64 = 1;
+pub(crate) const LOAD: u64 = Kind::Load as u64;
 
-pub(crate) const STORE: u64 = 2;
+pub(crate) const STORE: u64 = Kind::Store as u64;
 
 const SEED: u64 = 0x9E37_79B9_7F4A_7C15;
 
 // A load or store of 2^width bytes, 0 to 3, somewhere below 0x20000.
+// Kinds are numbers, as the machine takes them and the C model draws them.
 #[derive(Clone, Copy)]
 pub(crate) struct Draw {
     pub kind: u64,

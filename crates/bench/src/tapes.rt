@@ -4,12 +4,10 @@ use crate::draws::{Draw, Draws, LOAD};
 use machine::Machine;
 use memory::{ByteMemory, Memory};
 use std::alloc::{AllocError, Global};
-use tape::Item;
+use tape::{Item, Operation, RECORD};
 
-// The bytes of the memory that a tape runs on, and those of a record.
+// The bytes of the memory that a tape runs on.
 const MEMORY: usize = 65_536;
-
-const RECORD: usize = 16;
 
 // A round is a run of the whole tape. The lengths of all texts count, and the bytes of the last.
 pub(crate) fn run(heap: Global, records: u16, rounds: u64) -> Result<u64, AllocError> {
@@ -41,12 +39,12 @@ fn access_tape(heap: Global, records: u16) -> Result<Vec<u8>, AllocError> {
 // The item of an access; its address is cut to the memory's length.
 fn item(access: Draw) -> Item {
     let (operation, value) = if access.kind == LOAD {
-        (6, 0)
+        (Operation::Load, 0)
     } else {
-        (7, access.value)
+        (Operation::Store, access.value)
     };
     Item {
-        operation,
+        operation: operation.number(),
         slot: 0,
         width: access.width,
         address: access.address & 0xFFFF,

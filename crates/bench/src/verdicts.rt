@@ -2,12 +2,12 @@
 use crate::checksum::Checksum;
 use crate::draws::Draws;
 use crate::slots;
-use bank::{Bank, Verdict, range_word};
+use bank::{Bank, Privilege, Verdict, range_word};
 use refusals::Refusal;
 
-const MACHINE: u64 = 3;
+const MACHINE: u64 = Privilege::Machine as u64;
 
-const SUPERVISOR: u64 = 1;
+const SUPERVISOR: u64 = Privilege::Supervisor as u64;
 
 // A round is one verdict.
 pub(crate) fn run(rounds: u64) -> u64 {
@@ -38,7 +38,8 @@ fn full_bank() -> Bank {
     bank
 }
 
-// A number for each answer: the cause, 0 where it is allowed, below the deciding entry.
+// A number for each answer, as the C model makes it: the cause, 0 where it is allowed, below the
+// deciding entry.
 fn number(answer: Result<Verdict, Refusal>) -> u64 {
     match answer {
         Ok(Verdict::Allowed(entry)) => decider(entry) << 8,

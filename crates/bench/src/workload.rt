@@ -52,7 +52,8 @@ impl Workload {
         }
     }
 
-    // Runs it for some rounds, and answers the checksum.
+    // Runs it for some rounds, and answers the checksum. A match and no table of functions: a table
+    // would be made here and handed out.
     pub(crate) fn run(self, heap: Global, rounds: u64) -> Result<u64, AllocError> {
         match self {
             Workload::Draws => Ok(draws::run(rounds)),

@@ -1,4 +1,4 @@
-// What a line of a script asks for.
+// What a line of a script asks for. Its numbers are any, and the bank refuses them.
 #[derive(Clone, Copy, PartialEq, Eq, Debug)]
 pub enum Command {
     // read a register

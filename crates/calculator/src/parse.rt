@@ -10,7 +10,8 @@ use crate::verb::Verb;
 use tokens::Words;
 
 impl Command {
-    // The command that a line writes: a word, and numbers after single spaces.
+    // The command that a line writes: a word, and numbers after single spaces. Not `FromStr`, which
+    // takes text: a line is any bytes.
     pub fn parse(line: &[u8]) -> Option<Command>
         ensures answer { result ≡ parse_line line.now }
         ensures parses { CommandsParse }
@@ -27,9 +28,8 @@ pub(crate) fn numbers<const N: usize>(mut words: Words) -> Option<[u64; N]>
     ensures { result ≡ exactly N (numbers_of words.entry) }
 {
     let mut numbers = [0; N];
-    // by index: in a loop over `iter_mut` an invariant cannot name what a local array holds
-    for i in 0..N {
-        numbers[i] = number(words.next()?)?;
+    for place in numbers.iter_mut() {
+        *place = number(words.next()?)?;
     }
     match words.next() {
         None => Some(numbers),

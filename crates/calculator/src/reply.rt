@@ -10,7 +10,8 @@ use crate::command::Command;
 use bank::Bank;
 use std::fmt;
 
-// The answer to the line's command, or none where the line is no command.
+// The answer to the line's command, or none where the line is no command. A struct, since an Option
+// is not this crate's to print.
 #[derive(Clone, Copy)]
 pub(crate) struct Reply(Option<Answer>);
 

@@ -9,7 +9,7 @@ use crate::laws;
 use bank::Bank;
 
 impl Command {
-    // Does what the command asks for.
+    // Does what the command asks for. A match and no table of functions: each has numbers of its own.
     pub fn run(self, bank: &mut Bank) -> Answer
         ensures answer { result ≡ answer_of bank.old self }
         ensures after { bank.new ≡ content_after bank.old self }

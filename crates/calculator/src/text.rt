@@ -9,7 +9,8 @@ use std::fmt;
 // A number of which no more than nine hexadecimal digits are printed, its lowest, is below this.
 const NINE: u64 = 1 << 36;
 
-// The entry that decides on an access, if one does.
+// The entry that decides on an access, if one does. A struct, since an Option is not this crate's to
+// print.
 #[derive(Clone, Copy)]
 struct Decider(Option<usize>);
 

@@ -12,7 +12,8 @@ use monitor::{Answer, Denial, Layer};
 use refusals::Refusal;
 
 impl<M: Memory> Machine<M> {
-    // A fetch (kind 0), a load (1) or a store (2) by the party that runs.
+    // A fetch (kind 0), a load (1) or a store (2) by the party that runs. Any numbers are taken, and
+    // refused here.
     pub fn access(&mut self, kind: u64, address: u64, size: u64, value: u64) -> Answer
         ensures answer { result ≡ call_answer self.old.content (Access kind address size value) }
         ensures after { self.new.content ≡ call_after self.old.content (Access kind address size value) }

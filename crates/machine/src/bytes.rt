@@ -4,7 +4,7 @@ ghost use Rattle.monitor.specs.Bytes.{low_bytes, number};
 ghost use Rattle.monitor.specs.Content.{wiped, wiped_eight};
 ghost use Rattle.std.proofs.lemmas.List.Edits.{sets};
 
-use bank::{Bank, Verdict};
+use bank::{Bank, Kind, Privilege, Verdict};
 use memory::Memory;
 use std::marker::Model;
 
@@ -75,7 +75,12 @@ fn wipe_eight<M: Memory>(bank: &Bank, memory: &mut M, address: u64)
     ensures after { M.Memory.bytes memory.new ≡ wiped_eight bank.now (M.Memory.bytes memory.old) address }
     ensures beyond { M.Memory.beyond memory.new ≡ M.Memory.beyond memory.old }
 {
-    if let Ok(Verdict::Allowed(_)) = bank.verdict(3, 2, address, 8) {
+    if let Ok(Verdict::Allowed(_)) = bank.verdict(
+        Privilege::Machine.into(),
+        Kind::Store as u64,
+        address,
+        8,
+    ) {
         Reach { address, size: 8 }.store(memory, 0);
     }
 }

@@ -6,7 +6,8 @@ ghost use Rattle.refusals.specs.declared.Refusal.TheVariants.{NoSlot};
 use refusals::Refusal;
 use std::marker::Model;
 
-// The number of an entry: clauses see the number.
+// The number of an entry: clauses see the number. Not the bank's own index, which stays within it:
+// what goes between them is the number of a register.
 #[derive(Clone, Copy)]
 pub struct Entry {
     pub(crate) number: u64,

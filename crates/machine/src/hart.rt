@@ -11,7 +11,7 @@ pub struct Hart {
 
 // While it lives the hart is at machine privilege; its end puts `back` there.
 pub(crate) struct Raised<'a> {
-    hart: &'a mut Hart,
+    pub(crate) hart: &'a mut Hart,
     pub(crate) back: Privilege,
 }
 

@@ -1,5 +1,6 @@
 // The questions put to each call, in their order, and what the call goes on with.
-ghost use Rattle.std.specs.Prelude.{◌≡◌, [], ◌∷◌, length, IfOk, MatchResult, Ok, Err};
+ghost use Rattle.std.specs.Prelude.{◌≡◌, [], ◌∷◌, length, IfOk};
+ghost use Rattle.machine.specs.Asked.{Asked};
 ghost use Rattle.monitor.specs.Content.{roll_of};
 ghost use Rattle.monitor.specs.Layout.{starts};
 ghost use Rattle.monitor.specs.Roll.{is_slot, judges, range_questions};
@@ -25,8 +26,7 @@ impl<M: Memory> Machine<M> {
 
     // The machine is started, the slot is one, and the operating system runs.
     fn ask_system(&self, slot: u64) -> Result<Entry, Refusal>
-        ensures answer { let asked = ruling ((starts (length self.now.content.bytes), NotStarted) ∷ (is_slot slot, NoSlot) ∷ (os_runs self.now.content.party, OsNotRunning) ∷ []) in
-            MatchResult result (λ _. asked ≡ Ok tt) (λ e. asked ≡ Err e) }
+        ensures answer { Asked result (ruling ((starts (length self.now.content.bytes), NotStarted) ∷ (is_slot slot, NoSlot) ∷ (os_runs self.now.content.party, OsNotRunning) ∷ [])) }
         ensures slot { IfOk result (λ s. s ≡ slot) }
     {
         if !self.started() {
@@ -41,7 +41,7 @@ impl<M: Memory> Machine<M> {
 
     // Destroy: the slot is live besides.
     pub(crate) fn ask_destroy(&self, slot: u64) -> Result<Entry, Refusal>
-        ensures answer { let asked = judges (roll_of self.now.content) (Destroy slot) in MatchResult result (λ _. asked ≡ Ok tt) (λ e. asked ≡ Err e) }
+        ensures answer { Asked result (judges (roll_of self.now.content) (Destroy slot)) }
         ensures slot { IfOk result (λ s. s ≡ slot) }
     {
         let slot = self.ask_system(slot)?;
@@ -53,7 +53,7 @@ impl<M: Memory> Machine<M> {
 
     // Enter: the slot is live and not finished.
     pub(crate) fn ask_enter(&self, slot: u64) -> Result<Entry, Refusal>
-        ensures answer { let asked = judges (roll_of self.now.content) (Enter slot) in MatchResult result (λ _. asked ≡ Ok tt) (λ e. asked ≡ Err e) }
+        ensures answer { Asked result (judges (roll_of self.now.content) (Enter slot)) }
         ensures slot { IfOk result (λ s. s ≡ slot) }
     {
         let slot = self.ask_destroy(slot)?;
@@ -69,7 +69,7 @@ impl<M: Memory> Machine<M> {
         base: u64,
         exponent: u64,
     ) -> Result<(Entry, Placement), Refusal>
-        ensures answer { let asked = judges (roll_of self.now.content) (Create slot base exponent) in MatchResult result (λ _. asked ≡ Ok tt) (λ e. asked ≡ Err e) }
+        ensures answer { Asked result (judges (roll_of self.now.content) (Create slot base exponent)) }
         ensures slot { IfOk result (λ s. s ≡ (slot, (base, exponent))) }
     {
         let slot = self.ask_system(slot)?;
@@ -83,7 +83,7 @@ impl<M: Memory> Machine<M> {
     // The range is of a size that a slot may have, aligned, within the memory, and clear of the
     // pages and of all live ranges.
     fn ask_range(&self, base: u64, exponent: u64) -> Result<Placement, Refusal>
-        ensures answer { let asked = ruling (range_questions (roll_of self.now.content) base exponent) in MatchResult result (λ _. asked ≡ Ok tt) (λ e. asked ≡ Err e) }
+        ensures answer { Asked result (ruling (range_questions (roll_of self.now.content) base exponent)) }
         ensures place { IfOk result (λ p. p ≡ (base, exponent)) }
     {
         if exponent < 12 || exponent > 30 {
@@ -109,7 +109,7 @@ impl<M: Memory> Machine<M> {
 
     // Pause and finish: which enclave runs.
     pub(crate) fn ask_enclave(&self) -> Result<Entry, Refusal>
-        ensures answer { let asked = judges (roll_of self.now.content) Pause in MatchResult result (λ _. asked ≡ Ok tt) (λ e. asked ≡ Err e) }
+        ensures answer { Asked result (judges (roll_of self.now.content) Pause) }
         ensures running { IfOk result (λ s. self.now.content.party ≡ Enclave s) }
     {
         if !self.started() {

@@ -12,7 +12,7 @@ use monitor::{Answer, Call};
 use refusals::Refusal;
 
 impl<M: Memory> Machine<M> {
-    // A party's try at a protection register: no party has the privilege for it.
+    // A party's try at a protection register, by any number: no party has the privilege for it.
     pub fn register(&self, number: u64, word: u64) -> Answer
         ensures { result ≡ call_answer self.now.content (Register number word) }
     {
@@ -23,6 +23,7 @@ impl<M: Memory> Machine<M> {
         }
     }
 
+    // Any call. A match and no table of functions: each call has numbers of its own.
     pub fn call(&mut self, call: Call) -> Answer
         ensures answer { result ≡ call_answer self.old.content call }
         ensures after { self.new.content ≡ call_after self.old.content call }

@@ -1,9 +1,8 @@
 -- what each memory means: its bytes, and what its buffers hold beyond them
-use Rattle.std.specs.Prelude.{ℕ, List, ◌++◌, vec_items}
+use Rattle.std.specs.Prelude.{ℕ, List, ◌++◌}
 use Rattle.std.specs.Global.{Vec}
 use Rattle.memory.specs.Bytes.{front, rest}
 use Rattle.memory.specs.Turns.{turns, unturned}
-use Rattle.memory.specs.Words.{spread}
 use Rattle.memory.specs.declared.buffered.BufferMemory.{BufferMemory}
 use Rattle.memory.specs.declared.pair.PairMemory.{PairMemory}
 
@@ -19,21 +18,9 @@ buffer_beyond all loan m = loan m.buffer ++ rest (all m.buffer)
 abbrev pub ByteMemory : Type 0
 ByteMemory = BufferMemory (Vec ℕ)
 
-abbrev pub byte_bytes : ByteMemory → List ℕ
-byte_bytes m = front (vec_items m.buffer)
-
-abbrev pub byte_beyond : ByteMemory → List ℕ
-byte_beyond m = rest (vec_items m.buffer)
-
 -- over words
 abbrev pub WordMemory : Type 0
 WordMemory = BufferMemory (Vec ℕ)
-
-abbrev pub word_bytes : WordMemory → List ℕ
-word_bytes m = front (spread (vec_items m.buffer))
-
-abbrev pub word_beyond : WordMemory → List ℕ
-word_beyond m = rest (spread (vec_items m.buffer))
 
 -- two memories with bytes xs and ys in turn
 abbrev pub joined_bytes : List ℕ → List ℕ → List ℕ

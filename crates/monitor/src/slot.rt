@@ -2,7 +2,7 @@
 ghost use Rattle.monitor.specs.Slots.{ranged};
 ghost use Rattle.std.specs.Prelude.{◌≡◌};
 
-// A slot by its stage; all but a free one have a range: its first byte, and the one after its last.
+// A slot by its stage; all but a free one have a range, a pair as everywhere: its first byte, and the one after its last.
 #[derive(Clone, Copy, Debug, PartialEq, Eq)]
 pub enum Slot {
     Free,
@@ -36,8 +36,8 @@ pub enum Event {
     Destroy,
 }
 
-// Who runs: the operating system, or the enclave of a slot. Not an Option of a slot: the theorem
-// speaks of parties by name, and none of them is nobody.
+// Who runs: the operating system, or the enclave of a slot. Only clauses speak of it, for the theorem
+// names parties; a machine holds an Option of an entry.
 #[derive(Clone, Copy, Debug, PartialEq, Eq)]
 pub enum Party {
     Os,

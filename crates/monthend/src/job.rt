@@ -14,6 +14,8 @@ const MARKS: u32 = 0x800;
 
 const EXPONENT: u64 = 12;
 
+// The kinds of its accesses, by the numbers that a guest gives.
+
 const LOAD: u64 = 1;
 
 const STORE: u64 = 2;
@@ -23,8 +25,8 @@ pub(crate) struct Job {
     pub name: &'static str,
     pub slot: u32,
     pub base: u32,
-    pub drafts: [u64; 4],
-    pub ledger: [u64; 4],
+    // each line's draft and ledger entry
+    pub lines: [(u64, u64); 4],
 }
 
 impl Job {
@@ -40,7 +42,7 @@ pub(crate) fn prepare<M: Memory>(
     machine: &mut Machine<M>,
     job: Job,
 ) -> anyhow::Result<()> {
-    for (line, (draft, entry)) in (0..LINES).zip(job.drafts.into_iter().zip(job.ledger)) {
+    for (line, (draft, entry)) in (0..LINES).zip(job.lines) {
         put(machine, job.place(0, line), draft).context("a draft was not stored")?;
         put(machine, job.place(LEDGER, line), entry).context("a ledger line was not stored")?;
     }

@@ -19,16 +19,24 @@ const FIRST: Job = Job {
     name: "the first union",
     slot: 2,
     base: 0x10000,
-    drafts: [120_000, 455_050, 31_000, 9_800],
-    ledger: [120_000, 455_000, 31_000, 9_800],
+    lines: [
+        (120_000, 120_000),
+        (455_050, 455_000),
+        (31_000, 31_000),
+        (9_800, 9_800),
+    ],
 };
 
 const SECOND: Job = Job {
     name: "the second union",
     slot: 3,
     base: 0x20000,
-    drafts: [77_700, 5_000, 640_125, 18],
-    ledger: [77_700, 5_001, 640_126, 18],
+    lines: [
+        (77_700, 77_700),
+        (5_000, 5_001),
+        (640_125, 640_126),
+        (18, 18),
+    ],
 };
 
 fn main(rt: HostRuntime) -> anyhow::Result<()> {

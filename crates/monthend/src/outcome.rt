@@ -1,4 +1,4 @@
-// How an answer reads in a sentence.
+// How an answer reads in a sentence. A struct, since a Result is not this crate's to print.
 ghost use Rattle.std.specs.Prelude.{None};
 
 use monitor::{Answer, Denial, Layer};

@@ -6,7 +6,7 @@ use monitor::{Answer, Denial, Layer};
 use std::alloc::{AllocError, Global};
 use std::fmt;
 
-// An answer as its code.
+// An answer as its code. A struct, since a Result is not this crate's to print.
 #[derive(Clone, Copy)]
 pub(crate) struct Code(Answer);
 

@@ -10,7 +10,8 @@ use crate::record::{RECORD, decode};
 use crate::refusal::TapeRefusal;
 use refusals::Refusal;
 
-// Reads a tape into places, and answers how many items it has. Places past the last keep what
+// Reads a tape into places that are handed to it, since it takes no memory, and answers how many
+// items it has. Places past the last keep what
 // they held, and a refusal changes nothing.
 pub fn read(tape: &[u8], items: &mut [Item]) -> Result<usize, TapeRefusal>
     ensures answer { result ≡ measured (read_tape tape.now (length items.old)) }

@@ -31,6 +31,7 @@ fn big_endian(bytes: &[u8]) -> u64
     n
 }
 
+// Its first byte is taken from the rest as of any slice: a rule of this library.
 fn unpack(bytes: &[u8]) -> Unpacked
     requires { length bytes.now ≡ 16 }
     ensures { result ≡ split (number_from_digits 256 bytes.now) }

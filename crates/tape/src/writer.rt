@@ -10,7 +10,8 @@ use crate::record::{RECORD, encode};
 use crate::refusal::TapeRefusal;
 use refusals::Refusal;
 
-// Writes items onto a tape, and answers how many there are. Bytes past the last record keep what
+// Writes items onto a tape that is handed to it, since it takes no memory, and answers how many there
+// are. Bytes past the last record keep what
 // they held, and a refusal changes nothing.
 pub fn write(items: &[Item], tape: &mut [u8]) -> Result<usize, TapeRefusal>
     ensures answer { result ≡ counted (length items.now) (write_tape items.now (length tape.old)) }

@@ -5,6 +5,7 @@ ghost use Rattle.words.specs.Line.{item_text};
 use std::fmt;
 use tape::{Item, Operation, size};
 
+// A struct, since an item is not this crate's to print.
 #[derive(Clone, Copy)]
 pub(crate) struct Line(pub(crate) Item);
 

@@ -4,9 +4,9 @@ use Rattle.calculator.proofs.Parsing.{in_front}
 use Rattle.calculator.proofs.parse.numbers.Given as goal
 use Rattle.calculator.specs.Parse.{numbers as numbers_of}
 
-abbrev pub invariant-loop-i : goal.invariant-loop-i
-invariant-loop-i g l =
-    (goal.iterator-loop-i g).can_next l.words
-    × (goal.iterator-loop-i g).is_finite l.words
-    × (length l.numbers ≡ g.row.N)
-    × (numbers_of l.fn.words ≡ in_front (take l.i l.numbers) (numbers_of l.words))
+abbrev pub invariant-loop-place : goal.invariant-loop-place
+invariant-loop-place g l =
+    (goal.iterator-loop-place g).can_next l.words
+    × (goal.iterator-loop-place g).is_finite l.words
+    × (length l.place-items ≡ g.row.N)
+    × (numbers_of l.fn.words ≡ in_front (take l.place-index l.place-items) (numbers_of l.words))
