@@ -1,4 +1,5 @@
 // The registers: 0x3A0 to 0x3A3 hold four configuration bytes each, 0x3B0 to 0x3BF the words.
+ghost use Rattle.bank.specs.Clean.{Clean};
 ghost use Rattle.bank.specs.Content.{blank};
 ghost use Rattle.bank.specs.Laws.{AlwaysClean, LocksStand, OldLocksDecide, OnlyResetsRelease, WordsLastWritten};
 ghost use Rattle.bank.specs.Registers.{privilege_questions, read_answer, write_answer, written};
@@ -20,6 +21,14 @@ impl Bank {
         laws::always_clean();
         laws::words_last_written();
         Bank::zero()
+    }
+
+    // What is known of every bank, whoever made it: no byte has bits 6 or 5, or W without R. It does
+    // nothing when it is run.
+    pub fn stays_clean(&self)
+        ensures { Clean self.now }
+    {
+        let _ = &self.entries.list;
     }
 
     // All entries zero again, locked ones too.

@@ -26,9 +26,10 @@ impl<M: Memory> Machine<M> {
         ensures beyond { self.new.beyond ≡ self.old.beyond }
     {
         let (slot, place) = self.ask_create(slot, base, exponent)?;
+        let word = place.word();
         {
             let guard = Raised::new(&mut self.hart);
-            guard.set_word(&mut self.bank, slot, place.word());
+            guard.set_word(&mut self.bank, slot, word);
             guard.set_byte(&mut self.bank, slot, SHUT);
         }
         self.slots.step(slot, Event::Create(place.range()));

@@ -1,5 +1,5 @@
 // The numbers of entries, by which slots are named.
-ghost use Rattle.std.specs.Prelude.{◌≡◌, true, false, MatchResult};
+ghost use Rattle.std.specs.Prelude.{◌≡◌, ◌<◌, true, false, MatchResult};
 ghost use Rattle.monitor.specs.Roll.{is_slot};
 ghost use Rattle.refusals.specs.declared.Refusal.TheVariants.{NoSlot};
 
@@ -34,6 +34,13 @@ impl Entry {
             2..=14 => Ok(Entry { number: slot }),
             _ => Err(Refusal::NoSlot),
         }
+    }
+
+    // That it is below 16: what its type says to those who do not read the number.
+    pub(crate) fn within(self)
+        ensures { self < 16 }
+    {
+        let _ = self.number;
     }
 
     // The operating system's entry, which no slot has.

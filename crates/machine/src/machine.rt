@@ -1,10 +1,12 @@
 // The machine: made over a memory, and given back as that memory.
+ghost use Rattle.bank.specs.Clean.{Clean};
+ghost use Rattle.machine.specs.Turns.{is_entry};
 ghost use Rattle.monitor.specs.Content.{new_content};
 ghost use Rattle.monitor.specs.Examples.{MachineExamples};
 ghost use Rattle.monitor.specs.Layout.{starts};
 ghost use Rattle.refusals.specs.Questions.{ruling};
 ghost use Rattle.refusals.specs.declared.Refusal.TheVariants.{MemoryLength};
-ghost use Rattle.std.specs.Prelude.{◌≡◌, [], ◌∷◌, length};
+ghost use Rattle.std.specs.Prelude.{◌≡◌, [], ◌∷◌, length, true};
 
 use crate::entry::Entry;
 use crate::hart::{Hart, Raised};
@@ -78,6 +80,18 @@ impl<M: Memory> Machine<M> {
             slots: Slots::new(),
             turn: None,
             memory,
+        }
+    }
+
+    // What is known of every machine, whoever made it: its bank's bytes are clean, and an enclave that
+    // runs has the number of an entry. It does nothing when it is run.
+    pub fn stays_sound(&self)
+        ensures clean { Clean self.now.content.bank }
+        ensures entry { is_entry self.now.content.party ≡ true }
+    {
+        self.bank.stays_clean();
+        if let Some(entry) = self.turn {
+            entry.within();
         }
     }
 

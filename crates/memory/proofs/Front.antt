@@ -1,19 +1,28 @@
 -- the front of a list and its rest
-use Rattle.std.proofs.Common.{◌≡◌, ℕ, ◌^◌, ◌<◌, min, List, ◌++◌, length, get_or, take, set, Some, ◌∙◌, arith}
+use Rattle.std.proofs.Common.{◌≡◌, ℕ, zero, suc, ◌^◌, ◌<◌, min, List, [], ◌∷◌, ◌++◌, length, get_or, take, set, Some, refl, ap, ◌∙◌, arith}
 use Rattle.std.specs.List.{slice_get}
 use Rattle.std.proofs.lemmas.List.{drop-set-lt, get_or-take, get_or_past, length-take, take-append-drop}
 use Rattle.std.proofs.lemmas.Option.{gets, slice_get-get_or}
-use Rattle.std.proofs.Math.Seq.{take-set-lt}
 use Rattle.memory.specs.Bytes.{AllBytes, front, rest}
 
 pub length_front : (xs : List ℕ) → length (front xs) ≡ min (2 ^ 34) (length xs)
 unfolding front
 length_front xs = length-take (2 ^ 34) xs
 
--- a write below the end of the front
-pub front_set : (xs : List ℕ) (i y : ℕ) → i < 2 ^ 34 → front (set xs i y) ≡ set (front xs) i y
+pub get_d_front : (xs : List ℕ) (i d : ℕ) → i < length (front xs) → get_or (front xs) i d ≡ get_or xs i d
 unfolding front
-front_set xs i y h = take-set-lt (2 ^ 34) xs i y h
+get_d_front xs i d h = get_or-take (2 ^ 34) xs i d (omega (arith, length-take (2 ^ 34) xs))
+
+take_set : (n : ℕ) (xs : List ℕ) (i y : ℕ) → take n (set xs i y) ≡ set (take n xs) i y
+take_set zero xs i y = refl
+take_set (suc n) [] i y = refl
+take_set (suc n) (x ∷ xs) zero y = refl
+take_set (suc n) (x ∷ xs) (suc i) y = ap (λ zs. x ∷ zs) (take_set n xs i y)
+
+-- a write anywhere: past the end of the front it is none on either side
+pub front_set : (xs : List ℕ) (i y : ℕ) → front (set xs i y) ≡ set (front xs) i y
+unfolding front
+front_set xs i y = take_set (2 ^ 34) xs i y
 
 pub rest_set : (xs : List ℕ) (i y : ℕ) → i < 2 ^ 34 → rest (set xs i y) ≡ rest xs
 unfolding rest

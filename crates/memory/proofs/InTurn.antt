@@ -91,7 +91,7 @@ module _ (xs ys : List ℕ) (p : ℕ) (within : p < length (joined_bytes xs ys))
         sym (set_turns_even xs ys (p / 2) b) ∙ ap (λ i. set (turns xs ys) i b) k
 
     pub even_write : p % 2 ≡ 0 → joined_bytes (set xs (p / 2) b) ys ≡ set (joined_bytes xs ys) p b
-    even_write h = ap front (even_turns h) ∙ front_set (turns xs ys) p b cut
+    even_write h = ap front (even_turns h) ∙ front_set (turns xs ys) p b
 
     pub even_beyond : p % 2 ≡ 0 → joined_beyond (set xs (p / 2) b) ys ≡ joined_beyond xs ys
     unfolding unturned
@@ -108,7 +108,7 @@ module _ (xs ys : List ℕ) (p : ℕ) (within : p < length (joined_bytes xs ys))
         sym (set_turns_odd xs ys (p / 2) b) ∙ ap (λ i. set (turns xs ys) i b) k
 
     pub odd_write : p % 2 ≡ 1 → joined_bytes xs (set ys (p / 2) b) ≡ set (joined_bytes xs ys) p b
-    odd_write h = ap front (odd_turns h) ∙ front_set (turns xs ys) p b cut
+    odd_write h = ap front (odd_turns h) ∙ front_set (turns xs ys) p b
 
     pub odd_beyond : p % 2 ≡ 1 → joined_beyond xs (set ys (p / 2) b) ≡ joined_beyond xs ys
     unfolding unturned
